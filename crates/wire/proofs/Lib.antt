@@ -1,0 +1,4 @@
+-- Laws that belong to no one function; other crates cite them.
+pub mod Writes
+pub mod Matches
+pub mod Info

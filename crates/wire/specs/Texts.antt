@@ -1,0 +1,29 @@
+-- RFC 9458's fixed texts: the seven bytes in front of a request, info and the exporter context (01, "Layouts").
+use Prim.Native.Nat.{ℕ}
+use Prim.Native.Char.{code}
+use Prim.Native.String.{String, [] as end, _∷_ as _then_}
+use mathlib.Core.List.{List, [], _∷_, _++_}
+use Rattle.wire.specs.Bytes.{wordBytes}
+
+-- a text as its ASCII bytes
+unfoldable pub ascii : String → List ℕ
+ascii end = []
+ascii (c then s) = code c ∷ ascii s
+
+-- the request's first 7 bytes: key id, KEM, KDF, AEAD
+abbrev pub headBytes : ℕ → ℕ → ℕ → ℕ → List ℕ
+headBytes keyId kem kdf aead = keyId ∷ wordBytes kem ++ wordBytes kdf ++ wordBytes aead
+
+-- the 21 ASCII bytes and the zero byte that info begins with
+unfoldable pub requestLabel : List ℕ
+unfolding ascii
+requestLabel = ascii "message/bhttp request" ++ 0 ∷ []
+
+-- info, of the request's first 7 bytes
+abbrev pub infoBytes : List ℕ → List ℕ
+infoBytes head = requestLabel ++ head
+
+-- the exporter context: 22 ASCII bytes
+unfoldable pub exporterContext : List ℕ
+unfolding ascii
+exporterContext = ascii "message/bhttp response"
