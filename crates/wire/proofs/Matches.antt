@@ -1,15 +1,19 @@
 -- Laws of the first match: what a loop that passed over the elements before it has shown.
 -- Assumes nothing.
-use mathlib.Core.Path.{_≡_, refl, sym, ap, _∙_}
+use mathlib.Core.Path.{_≡_, refl, ap}
 use mathlib.Core.Bool.{Bool, true, false}
 use mathlib.Core.List.{List, [], _∷_, _++_}
 use Prim.Native.Nat.{ℕ, zero, suc, _≤_, _<_, suc-le-suc}
 use native.Mathlib.Nat.{not-suc-le-zero, le-of-suc-le-suc}
 use native.Mathlib.Omega.{arith}
-use borrow.Author.Tests.{lt-ltb, le-ltb}
-use lib.ListN.{length, getD, take}
+use lib.ListN.{length, getD}
 use Rattle.wire.specs.Tests.{pick}
+use Rattle.wire.proofs.Booleans.{either}
 use Rattle.wire.specs.Search.{firstPlace, anyPasses}
+
+later : (b : Bool) {rest : Bool} → rest ≡ true → pick b true rest ≡ true
+later true e = refl
+later false e = e
 
 module _ {A : Type 0} (default : A) (test : A → Bool) where
   -- the element at k passes and none before it does
@@ -29,11 +33,20 @@ module _ {A : Type 0} (default : A) (test : A → Bool) where
   first-none (x ∷ xs) none =
       rw (none 0 (omega arith)) (ap suc (first-none xs (λ j l. none (suc j) (suc-le-suc l))))
 
-  pub any-at : (xs : List A) (k : ℕ) → k < length xs → ((j : ℕ) → j < k → test (getD xs j default) ≡ false)
-      → test (getD xs k default) ≡ true → anyPasses test xs ≡ true
+  -- the first match passes, where there is one
+  pub first-passes : (xs : List A) → firstPlace test xs < length xs → test (getD xs (firstPlace test xs) default) ≡ true
+  unfolding firstPlace
+  first-passes [] h = absurd (not-suc-le-zero h)
+  first-passes (x ∷ xs) h =
+      either (test x) (λ e. rw e e) (λ e. rw e (first-passes xs (le-of-suc-le-suc (rw e at h))))
+
+  pub any-at : (xs : List A) (k : ℕ) → k < length xs → test (getD xs k default) ≡ true → anyPasses test xs ≡ true
   unfolding anyPasses
-  any-at xs k h none here = rw (first-at xs k h none here) (lt-ltb _ _ h)
+  any-at [] k h here = absurd (not-suc-le-zero h)
+  any-at (x ∷ xs) zero h here = rw here
+  any-at (x ∷ xs) (suc k) h here = later (test x) (any-at xs k (le-of-suc-le-suc h) here)
 
   pub any-none : (xs : List A) → ((j : ℕ) → j < length xs → test (getD xs j default) ≡ false) → anyPasses test xs ≡ false
   unfolding anyPasses
-  any-none xs none = rw (first-none xs none) (le-ltb (length xs) (length xs) (omega arith))
+  any-none [] none = refl
+  any-none (x ∷ xs) none = rw (none 0 (omega arith)) (any-none xs (λ j l. none (suc j) (suc-le-suc l)))

@@ -35,10 +35,12 @@ pub front-more : (bytes more buffer : List ℕ) → length bytes + length more �
 front-more bytes more buffer h =
     let room : length bytes + length more ≤ length (withFront bytes buffer) = simp (length-append, length-drop) (omega arith) in
     overwritten-all (withFront bytes buffer) (length bytes) more room
-    ∙ rw (take-append-seam bytes (drop (length bytes) buffer),
+    ∙ rw (
+      take-append-seam bytes (drop (length bytes) buffer),
       drop-append-add bytes (drop (length bytes) buffer) (length more),
       drop-drop (length more) (length bytes) buffer,
-      length-append bytes more)
+      length-append bytes more,
+    )
 
 -- a front that is the whole buffer
 pub front-whole : (bytes buffer : List ℕ) → length bytes ≡ length buffer → withFront bytes buffer ≡ bytes

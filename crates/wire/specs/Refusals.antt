@@ -4,7 +4,6 @@ use mathlib.Core.Bool.{Bool, true, false}
 use Rattle.wire.specs.declared.refusal.Refusal.{Refusal}
 
 infixr 4 _when_otherwise_
-
 -- the number where the test holds, else what follows; at the end of a chain 0 stands for no refusal
 abbrev pub _when_otherwise_ : ℕ → Bool → ℕ → ℕ
 _when_otherwise_ n true m = n

@@ -1,9 +1,7 @@
 -- The first element of a list that passes a test.
 use Prim.Native.Nat.{ℕ, suc}
-use mathlib.Core.Bool.{Bool}
+use mathlib.Core.Bool.{Bool, true, false}
 use mathlib.Core.List.{List, [], _∷_}
-use lib.Dec.{ltb}
-use lib.ListN.{length}
 use Rattle.wire.specs.Tests.{pick}
 
 -- the place of the first element that passes; the list's length where none does
@@ -13,4 +11,5 @@ firstPlace test (x ∷ xs) = pick (test x) 0 (suc (firstPlace test xs))
 
 -- some element passes
 unfoldable pub anyPasses : {A : Type 0} → (A → Bool) → List A → Bool
-anyPasses test xs = ltb (firstPlace test xs) (length xs)
+anyPasses test [] = false
+anyPasses test (x ∷ xs) = pick (test x) true (anyPasses test xs)

@@ -2,7 +2,6 @@
 use mathlib.Core.Bool.{Bool, true, false}
 
 infixr 6 _and_
-
 -- the first where the test holds, else the second
 abbrev pub pick : {A : Type 0} → Bool → A → A → A
 pick true a b = a

@@ -7,11 +7,7 @@ ghost use Rattle.wire.specs.Bytes.{byteAt, wordAt, overwritten};
 pub fn byte_at(bytes: &[u8], at: usize) -> u8
     ensures { λ r. ⌜ r ≡ byteAt (now (bytes .entry)) at ⌝ }
 {
-    if at < bytes.len() {
-        bytes[at]
-    } else {
-        0
-    }
+    if at < bytes.len() { bytes[at] } else { 0 }
 }
 
 // The big-endian number of the two bytes at an offset; a byte past the end counts as 0.

@@ -67,10 +67,11 @@ loop-again : tie.Need-loop-again Inv-loop μ-loop
 loop-again c =
     let a = c .before .before .before .before .before .before .before .args in
     let l = c .before .before .loop in
-    let eq : l .buffer ≡ paste (a .buffer .now) (a .at) (a .bytes .now) (l .done) = l .inv .2 in
-    (omega arith,
+    let eq : l .buffer ≡ paste (a .buffer .now) (a .at) (a .bytes .now) (l .done) = l .inv .2 in (
+      omega arith,
       simp length-set (l .inv .1),
-      rw (l .inv .2, paste-suc (a .buffer .now) (a .at) (a .bytes .now) (l .done) 0 (omega arith) (omega arith), add-one))
+      rw (l .inv .2, paste-suc (a .buffer .now) (a .at) (a .bytes .now) (l .done) 0 (omega arith) (omega arith), add-one),
+    )
 
 -- src/bytes.rt:35:1
 same-length : tie.Need-same-length Inv-loop μ-loop

@@ -1,0 +1,45 @@
+-- What 01's table says, as one computed statement about the definitions; which numbers are known, over every number; and the
+-- facts about sizes that other crates use, over every number.
+use Prim.Native.Nat.{ℕ, _≤_, _<_}
+use mathlib.Core.Path.{_≡_}
+use mathlib.Core.Bool.{Bool, true, false}
+use mathlib.Core.List.{List, [], _∷_, map}
+use lib.Dec.{eqb}
+use Rattle.wire.specs.Search.{anyPasses}
+use Rattle.algorithms.specs.Sizes.{knownKem, knownKdf, knownAead, encLength, publicKeyLength, keyLength, shortestRequest, responseNonceLength}
+
+-- 01's KEMs, KDFs and AEADs, in its order
+abbrev pub kems : List ℕ
+kems = 0x0010 ∷ 0x0011 ∷ 0x0012 ∷ 0x0020 ∷ 0x0021 ∷ []
+
+abbrev pub kdfs : List ℕ
+kdfs = 0x0001 ∷ 0x0002 ∷ 0x0003 ∷ []
+
+abbrev pub aeads : List ℕ
+aeads = 0x0001 ∷ 0x0002 ∷ 0x0003 ∷ []
+
+-- 01's columns
+pub record SizesOfThePaper : Type 0 where
+  pub nenc : map encLength kems ≡ 65 ∷ 97 ∷ 133 ∷ 32 ∷ 56 ∷ []
+  pub npk : map publicKeyLength kems ≡ 65 ∷ 97 ∷ 133 ∷ 32 ∷ 56 ∷ []
+  pub shortest : map shortestRequest kems ≡ 88 ∷ 120 ∷ 156 ∷ 55 ∷ 79 ∷ []
+  pub nk : map keyLength aeads ≡ 16 ∷ 32 ∷ 32 ∷ []
+  pub nonce : map responseNonceLength aeads ≡ 16 ∷ 32 ∷ 32 ∷ []
+
+-- the number is in the list
+abbrev pub among : List ℕ → ℕ → Bool
+among known number = anyPasses (λ k. eqb k number) known
+
+-- "No other number is known; AEAD 0xFFFF is not", for every number
+pub record KnownNumbers : Type 0 where
+  pub kem : (number : ℕ) → knownKem number ≡ among kems number
+  pub kdf : (number : ℕ) → knownKdf number ≡ among kdfs number
+  pub aead : (number : ℕ) → knownAead number ≡ among aeads number
+  pub exportOnly : knownAead 0xFFFF ≡ false
+
+-- a size of a known number is above 0, and every size has a bound
+pub record SizeBounds : Type 0 where
+  pub keyIsThere : (kem : ℕ) → knownKem kem ≡ true → 0 < publicKeyLength kem
+  pub keyBound : (kem : ℕ) → publicKeyLength kem ≤ 133
+  pub encIsKey : (kem : ℕ) → encLength kem ≡ publicKeyLength kem
+  pub nonceBound : (aead : ℕ) → responseNonceLength aead ≤ 32
