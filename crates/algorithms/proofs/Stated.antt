@@ -7,15 +7,15 @@ use lib.ListN.{getD, length, List·getD-eq-default}
 use Prim.Native.Nat.{ℕ, _≤_, _<_, max}
 use native.Mathlib.Omega.{arith}
 use lib.Dec.{eqb, leb, ltb}
-use borrow.Author.Tests.{leb-true, eqb-true, ltb-true, ltb-false}
+use borrow.Author.Tests.{leb-true, eqb-true, ltb-true, ltb-false, not-false}
 use Rattle.wire.specs.Tests.{_and_, pick}
-use Rattle.wire.specs.Search.{firstPlace, anyPasses}
+use Rattle.wire.specs.Search.{firstPlace, anyPasses, among}
 use Rattle.wire.proofs.Booleans.{either, and-left, and-right, true-or-false}
 use Rattle.wire.proofs.Matches.{first-passes}
 use Rattle.algorithms.specs.declared.Row.{Row}
 use Rattle.algorithms.specs.Table.{table, rowOf, isRow, noRow, kemKind, kdfKind, aeadKind}
 use Rattle.algorithms.specs.Sizes.{isKnown, knownKem, knownKdf, knownAead, encLength, publicKeyLength, keyLength, responseNonceLength}
-use Rattle.algorithms.specs.Stated.{SizesOfThePaper, KnownNumbers, SizeBounds, among, kems, kdfs, aeads}
+use Rattle.algorithms.specs.Stated.{SizesOfThePaper, KnownNumbers, SizeBounds}
 use Rattle.algorithms.proofs.Rows.{of-row, every}
 
 pub sizes-of-the-paper : SizesOfThePaper
@@ -38,8 +38,8 @@ module _ (kind number : ℕ) where
   found-among (row ∷ rows) t =
       either (eqb (row .kind) kind)
       (λ k. either (eqb (row .number) number)
-          (λ n. rw (k, n) (and-left (isKnown row) (every isKnown rows) t))
-          (λ n. rw (k, n) (found-among rows (and-right (isKnown row) (every isKnown rows) t))))
+      (λ n. rw (k, n) (and-left (isKnown row) (every isKnown rows) t))
+      (λ n. rw (k, n) (found-among rows (and-right (isKnown row) (every isKnown rows) t))))
       (λ k. rw k (found-among rows (and-right (isKnown row) (every isKnown rows) t)))
 
 pub known-numbers : KnownNumbers
@@ -49,7 +49,7 @@ known-numbers =
       kem = λ n. found-among kemKind n table refl;
       kdf = λ n. found-among kdfKind n table refl;
       aead = λ n. found-among aeadKind n table refl;
-      exportOnly = refl
+      exportOnly = refl;
     }
 
 -- the tests that every row passes, computed over the table
@@ -65,16 +65,25 @@ nonceTest row = leb (row .key) 32
 kemTest : Row → Bool
 kemTest row = pick (eqb (row .kind) kemKind) (ltb 0 (row .«public_key»)) true
 
+noneTest : Row → Bool
+noneTest row = pick (eqb (row .kind) 0) (eqb (row .«public_key») 0) true
+
+no-key-unknown : (n : ℕ) → knownKem n ≡ false → publicKeyLength n ≡ 0
+unfolding knownKem publicKeyLength noneTest table
+no-key-unknown n h =
+    eqb-true (rowOf kemKind n .«public_key») 0
+    (rw (not-false (eqb (rowOf kemKind n .kind) 0) h) at (of-row noneTest refl refl kemKind n))
+
 key-is-there : (n : ℕ) → knownKem n ≡ true → 0 < publicKeyLength n
 unfolding knownKem publicKeyLength rowOf kemTest table
 key-is-there n h =
     let place = firstPlace (isRow kemKind n) table in
     either (ltb place (length table))
     (λ found.
-        let is = first-passes noRow (isRow kemKind n) table (ltb-true place (length table) found) in
-        ltb-true 0 (rowOf kemKind n .«public_key»)
-        (rw (and-left (eqb (rowOf kemKind n .kind) kemKind) (eqb (rowOf kemKind n .number) n) is)
-          at (of-row kemTest refl refl kemKind n)))
+    let is = first-passes noRow (isRow kemKind n) table (ltb-true place (length table) found) in
+    ltb-true 0 (rowOf kemKind n .«public_key»)
+    (rw (and-left (eqb (rowOf kemKind n .kind) kemKind) (eqb (rowOf kemKind n .number) n) is)
+    at (of-row kemTest refl refl kemKind n)))
     (λ none. absurd (true-or-false h (rw (List·getD-eq-default table noRow (ltb-false place (length table) none)))))
 
 pub size-bounds : SizeBounds
@@ -82,7 +91,8 @@ unfolding knownKem publicKeyLength encLength keyLength table keyTest encTest non
 size-bounds =
     record {
       keyIsThere = key-is-there;
+      noKeyUnknown = no-key-unknown;
       keyBound = λ n. leb-true (rowOf kemKind n .«public_key») 133 (of-row keyTest refl refl kemKind n);
       encIsKey = λ n. eqb-true (rowOf kemKind n .enc) (rowOf kemKind n .«public_key») (of-row encTest refl refl kemKind n);
-      nonceBound = λ n. let h : rowOf aeadKind n .key ≤ 32 = leb-true (rowOf aeadKind n .key) 32 (of-row nonceTest refl refl aeadKind n) in omega arith
+      nonceBound = λ n. let h : rowOf aeadKind n .key ≤ 32 = leb-true (rowOf aeadKind n .key) 32 (of-row nonceTest refl refl aeadKind n) in omega arith;
     }

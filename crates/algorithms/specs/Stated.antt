@@ -4,8 +4,7 @@ use Prim.Native.Nat.{ℕ, _≤_, _<_}
 use mathlib.Core.Path.{_≡_}
 use mathlib.Core.Bool.{Bool, true, false}
 use mathlib.Core.List.{List, [], _∷_, map}
-use lib.Dec.{eqb}
-use Rattle.wire.specs.Search.{anyPasses}
+use Rattle.wire.specs.Search.{among}
 use Rattle.algorithms.specs.Sizes.{knownKem, knownKdf, knownAead, encLength, publicKeyLength, keyLength, shortestRequest, responseNonceLength}
 
 -- 01's KEMs, KDFs and AEADs, in its order
@@ -26,10 +25,6 @@ pub record SizesOfThePaper : Type 0 where
   pub nk : map keyLength aeads ≡ 16 ∷ 32 ∷ 32 ∷ []
   pub nonce : map responseNonceLength aeads ≡ 16 ∷ 32 ∷ 32 ∷ []
 
--- the number is in the list
-abbrev pub among : List ℕ → ℕ → Bool
-among known number = anyPasses (λ k. eqb k number) known
-
 -- "No other number is known; AEAD 0xFFFF is not", for every number
 pub record KnownNumbers : Type 0 where
   pub kem : (number : ℕ) → knownKem number ≡ among kems number
@@ -37,9 +32,10 @@ pub record KnownNumbers : Type 0 where
   pub aead : (number : ℕ) → knownAead number ≡ among aeads number
   pub exportOnly : knownAead 0xFFFF ≡ false
 
--- a size of a known number is above 0, and every size has a bound
+-- a key length is above 0 exactly where the KEM is known, and every size has a bound
 pub record SizeBounds : Type 0 where
   pub keyIsThere : (kem : ℕ) → knownKem kem ≡ true → 0 < publicKeyLength kem
+  pub noKeyUnknown : (kem : ℕ) → knownKem kem ≡ false → publicKeyLength kem ≡ 0
   pub keyBound : (kem : ℕ) → publicKeyLength kem ≤ 133
   pub encIsKey : (kem : ℕ) → encLength kem ≡ publicKeyLength kem
   pub nonceBound : (aead : ℕ) → responseNonceLength aead ≤ 32

@@ -6,10 +6,12 @@ use mathlib.Core.List.{List, [], _∷_, _++_}
 use Prim.Native.Nat.{ℕ, zero, suc, _≤_, _<_, suc-le-suc}
 use native.Mathlib.Nat.{not-suc-le-zero, le-of-suc-le-suc}
 use native.Mathlib.Omega.{arith}
+use borrow.Author.Tests.{eq-eqb, ne-eqb}
+use lib.Dec.{eqb}
 use lib.ListN.{length, getD}
 use Rattle.wire.specs.Tests.{pick}
 use Rattle.wire.proofs.Booleans.{either}
-use Rattle.wire.specs.Search.{firstPlace, anyPasses}
+use Rattle.wire.specs.Search.{firstPlace, anyPasses, among}
 
 later : (b : Bool) {rest : Bool} → rest ≡ true → pick b true rest ≡ true
 later true e = refl
@@ -50,3 +52,10 @@ module _ {A : Type 0} (default : A) (test : A → Bool) where
   unfolding anyPasses
   any-none [] none = refl
   any-none (x ∷ xs) none = rw (none 0 (omega arith)) (any-none xs (λ j l. none (suc j) (suc-le-suc l)))
+
+-- a number in a list of numbers
+pub among-at : (xs : List ℕ) (x k : ℕ) → k < length xs → getD xs k 0 ≡ x → among xs x ≡ true
+among-at xs x k h here = any-at 0 (λ n. eqb n x) xs k h (eq-eqb (getD xs k 0) x here)
+
+pub among-none : (xs : List ℕ) (x k : ℕ) → length xs ≤ k → ((j : ℕ) → j < k → getD xs j 0 ≡ x → ⊥) → among xs x ≡ false
+among-none xs x k h none = any-none 0 (λ n. eqb n x) xs (λ j l. ne-eqb (getD xs j 0) x (none j (omega arith)))

@@ -2,4 +2,5 @@
 // was, the fixed texts, and the refusal that every entry answers with.
 pub mod bytes;
 pub mod refusal;
+pub mod search;
 pub mod texts;

@@ -62,10 +62,11 @@ loop-again : tie.Need-loop-again Inv-loop μ-loop
 unfolding table
 loop-again c =
     let a = c .before .before .before .before .before .args in
-    let l = c .before .before .before .before .loop in
-    (omega arith,
+    let l = c .before .before .before .before .loop in (
+      omega arith,
       below-more (λ (j : ℕ). isRow (a .kind) (a .number) (getD table j noRow) ≡ false) (l .at) (l .inv .1)
-      (sym (c .before .is .ensures) ∙ c .if1 .left))
+          (sym (c .before .is .ensures) ∙ c .if1 .left),
+    )
 
 -- src/lib.rt:120:1
 returns-2 : tie.Need-returns-2 Inv-loop μ-loop

@@ -1,0 +1,35 @@
+-- 01, "Head": 7 + Nenc bytes of the request and 29 bytes of info, each at the front of its buffer; 3, 6, 13, 14.
+use Prim.Native.Nat.{ℕ, zero, suc, _+_}
+use mathlib.Core.Bool.{Bool, true, false, not}
+use mathlib.Core.List.{List, [], _∷_, _++_}
+use lib.Dec.{eqb, leb, ltb}
+use lib.ListN.{length}
+use Rattle.wire.specs.Tests.{pick, _and_}
+use Rattle.wire.specs.Bytes.{withFront}
+use Rattle.wire.specs.Refusals.{_when_otherwise_, refused}
+use Rattle.wire.specs.Texts.{headBytes, infoBytes}
+use Rattle.algorithms.specs.Sizes.{knownKem, knownPair, encLength, headLength}
+use Rattle.client.specs.declared.head.Headed.{Headed}
+
+-- the length of info
+abbrev pub infoLength : ℕ
+infoLength = 29
+
+-- 01, "Order", head; 0: no refusal
+unfoldable pub headRefusal : ℕ → ℕ → ℕ → List ℕ → ℕ → ℕ → ℕ
+headRefusal kem kdf aead enc headRoom infoRoom =
+    3 when not (knownKem kem) otherwise
+    6 when not (knownPair kdf aead) otherwise
+    13 when not (eqb (length enc) (encLength kem)) otherwise
+    14 when not (leb (headLength + encLength kem) headRoom and leb infoLength infoRoom) otherwise
+    0
+
+-- the answer of a refusal number: with 0, the length of the head that was written
+abbrev pub headed : ℕ → ℕ → Headed
+headed zero length = Headed.Length length
+headed (suc n) length = Headed.Refused (refused (suc n))
+
+-- a buffer of a refusal number: with 0, the bytes stand at its front
+abbrev pub unlessRefused : ℕ → List ℕ → List ℕ → List ℕ
+unlessRefused zero bytes buffer = withFront bytes buffer
+unlessRefused (suc n) bytes buffer = buffer

@@ -1,0 +1,38 @@
+-- 01, "Split": a response is its nonce, of max(Nn, Nk) bytes, and a ciphertext of 16 to 65,552 bytes; 6, 1, 2.
+use Prim.Native.Nat.{ℕ, zero, suc, _+_, _-_}
+use mathlib.Core.Bool.{Bool, true, false, not}
+use mathlib.Core.List.{List, [], _∷_}
+use lib.Dec.{ltb}
+use lib.ListN.{length, take, drop}
+use Rattle.wire.specs.Refusals.{_when_otherwise_, refused}
+use Rattle.algorithms.specs.Sizes.{knownAead, responseNonceLength, tagLength}
+use Rattle.client.specs.declared.split.Parts.{Parts}
+
+-- the longest plain response
+abbrev pub longestPlain : ℕ
+longestPlain = 65536
+
+-- 01, "Order", split; 0: no refusal
+unfoldable pub splitRefusal : ℕ → ℕ → ℕ
+splitRefusal aead size =
+    6 when not (knownAead aead) otherwise
+    1 when ltb size (responseNonceLength aead + tagLength) otherwise
+    2 when ltb (responseNonceLength aead + longestPlain + tagLength) size otherwise
+    0
+
+-- the checking entry's answer of a refusal number: with 0, where the nonce ends and the ciphertext starts
+abbrev pub partsOf : ℕ → ℕ → Parts
+partsOf zero nonceEnd = Parts.Meet nonceEnd
+partsOf (suc n) nonceEnd = Parts.Refused (refused (suc n))
+
+abbrev pub splitAnswer : ℕ → ℕ → Parts
+splitAnswer aead size = partsOf (splitRefusal aead size) (responseNonceLength aead)
+
+-- the two parts, empty on refusal
+abbrev pub noncePart : List ℕ → Parts → List ℕ
+noncePart response (Parts.Meet at) = take at response
+noncePart response (Parts.Refused r) = []
+
+abbrev pub ciphertextPart : List ℕ → Parts → List ℕ
+ciphertextPart response (Parts.Meet at) = drop at response
+ciphertextPart response (Parts.Refused r) = []

@@ -1,0 +1,56 @@
+// The two parts of a response.
+ghost use mathlib.Core.Path.{_≡_};
+ghost use lib.ListN.{length};
+ghost use Rattle.client.specs.Split.{splitAnswer, noncePart, ciphertextPart};
+use algorithms::Aead;
+use algorithms::Size;
+use wire::refusal::Refusal;
+
+// Where the nonce ends and the ciphertext starts, or the refusal.
+pub enum Parts {
+    Meet(usize),
+    Refused(Refusal),
+}
+
+// The checking entry: 6, 1, 2, or where the two parts meet.
+pub fn check(aead: Aead, response: &[u8]) -> Parts
+    ensures { λ r. ⌜ r ≡ splitAnswer (aead .0) (length (now (response .entry))) ⌝ }
+{
+    let Size::Bytes(nonce) = aead.response_nonce_length() else {
+        return refused(6);
+    };
+    if response.len() < nonce + Aead::TAG {
+        return refused(1);
+    }
+    if nonce + LONGEST_PLAIN + Aead::TAG < response.len() {
+        return refused(2);
+    }
+    Parts::Meet(nonce)
+}
+
+// The nonce, empty exactly where `check` refuses.
+pub fn nonce(aead: Aead, response: &[u8]) -> &[u8]
+    ensures { λ r. ⌜ now r ≡ noncePart (now (response .entry)) (splitAnswer (aead .0) (length (now (response .entry)))) ⌝ }
+{
+    match check(aead, response) {
+        Parts::Meet(at) => &response[..at],
+        Parts::Refused(_) => &response[..0],
+    }
+}
+
+// The ciphertext with its tag, empty exactly where `check` refuses.
+pub fn ciphertext(aead: Aead, response: &[u8]) -> &[u8]
+    ensures { λ r. ⌜ now r ≡ ciphertextPart (now (response .entry)) (splitAnswer (aead .0) (length (now (response .entry)))) ⌝ }
+{
+    match check(aead, response) {
+        Parts::Meet(at) => &response[at..],
+        Parts::Refused(_) => &response[..0],
+    }
+}
+
+// The longest plain response.
+const LONGEST_PLAIN: usize = 65536;
+
+fn refused(number: u8) -> Parts {
+    Parts::Refused(Refusal { number, place: 0 })
+}

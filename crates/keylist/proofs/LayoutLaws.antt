@@ -1,0 +1,84 @@
+-- When one configuration keeps the layout's rules, and when it does not: one law for each way that the code finds it.
+-- Assumes nothing.
+use mathlib.Core.Path.{_≡_, refl, sym, _∙_}
+use mathlib.Core.Bool.{Bool, true, false, not}
+use mathlib.Core.List.{List}
+use Prim.Native.Nat.{ℕ, _+_, _≤_, _<_}
+use native.Mathlib.Omega.{arith}
+use borrow.Author.Tests.{lt-leb, le-leb, eq-eqb, ne-eqb, leb-true, eqb-true}
+use lib.Dec.{eqb, leb}
+use lib.ListN.{length}
+use Rattle.wire.specs.Tests.{_and_}
+use Rattle.wire.proofs.Booleans.{either, and-left, and-right, true-or-false}
+use Rattle.algorithms.specs.Sizes.{knownKem, publicKeyLength}
+use Rattle.algorithms.proofs.Stated.{size-bounds}
+use Rattle.keylist.specs.Layout.{layoutHolds, nextStart, kemAt, lengthAt, pairBytesAt, pairBytesHold}
+
+-- a KEM with a key length above 0 is known, and one with 0 is not
+pub known-by-length : (kem : ℕ) → 0 < publicKeyLength kem → knownKem kem ≡ true
+known-by-length kem h =
+    either (knownKem kem) (λ e. e)
+    (λ e. absurd (let z : publicKeyLength kem ≡ 0 = size-bounds .noKeyUnknown kem e in omega arith))
+
+pub unknown-by-length : (kem : ℕ) → publicKeyLength kem ≡ 0 → knownKem kem ≡ false
+unknown-by-length kem h =
+    either (knownKem kem)
+    (λ e. absurd (let z : 0 < publicKeyLength kem = size-bounds .keyIsThere kem e in omega arith))
+    (λ e. e)
+
+module _ (bytes : List ℕ) (at : ℕ) where
+  -- the list ends first
+  pub holds-not-whole : length bytes < nextStart bytes at → layoutHolds bytes at ≡ false
+  unfolding layoutHolds
+  holds-not-whole h = rw (lt-leb (nextStart bytes at) (length bytes) h)
+
+  -- an unknown KEM
+  pub holds-not-kem : nextStart bytes at ≤ length bytes → publicKeyLength (kemAt bytes at) ≡ 0 → layoutHolds bytes at ≡ false
+  unfolding layoutHolds
+  holds-not-kem h k = rw (le-leb (nextStart bytes at) (length bytes) h, unknown-by-length (kemAt bytes at) k)
+
+  module _ (h : nextStart bytes at ≤ length bytes) (k : 0 < publicKeyLength (kemAt bytes at)) where
+    -- L is not 5 + Npk + S
+    pub holds-not-length : (lengthAt bytes at ≡ 5 + publicKeyLength (kemAt bytes at) + pairBytesAt bytes at → ⊥)
+        → layoutHolds bytes at ≡ false
+    unfolding layoutHolds
+    holds-not-length l =
+        rw (
+          le-leb (nextStart bytes at) (length bytes) h,
+          known-by-length (kemAt bytes at) k,
+          ne-eqb (lengthAt bytes at) (5 + publicKeyLength (kemAt bytes at) + pairBytesAt bytes at) l,
+        )
+
+    -- what is left to test is S
+    pub holds-by-pairs : lengthAt bytes at ≡ 5 + publicKeyLength (kemAt bytes at) + pairBytesAt bytes at
+        → layoutHolds bytes at ≡ pairBytesHold (pairBytesAt bytes at)
+    unfolding layoutHolds
+    holds-by-pairs l =
+        rw (
+          le-leb (nextStart bytes at) (length bytes) h,
+          known-by-length (kemAt bytes at) k,
+          eq-eqb (lengthAt bytes at) (5 + publicKeyLength (kemAt bytes at) + pairBytesAt bytes at) l,
+        )
+
+-- the numbers of a configuration that keeps the rules
+pub record Holds (bytes : List ℕ) (at : ℕ) : Type 0 where
+  pub whole : nextStart bytes at ≤ length bytes
+  pub kem : knownKem (kemAt bytes at) ≡ true
+  pub sizes : lengthAt bytes at ≡ 5 + publicKeyLength (kemAt bytes at) + pairBytesAt bytes at
+  pub pairs : pairBytesHold (pairBytesAt bytes at) ≡ true
+
+pub holds : (bytes : List ℕ) (at : ℕ) → layoutHolds bytes at ≡ true → Holds bytes at
+unfolding layoutHolds
+holds bytes at e =
+    let a = leb (nextStart bytes at) (length bytes) in
+    let b = knownKem (kemAt bytes at) in
+    let d = eqb (lengthAt bytes at) (5 + publicKeyLength (kemAt bytes at) + pairBytesAt bytes at) in
+    let p = pairBytesHold (pairBytesAt bytes at) in
+    record {
+      whole = leb-true (nextStart bytes at) (length bytes) (and-left a (b and d and p) e);
+      kem = and-left b (d and p) (and-right a (b and d and p) e);
+      sizes =
+          eqb-true (lengthAt bytes at) (5 + publicKeyLength (kemAt bytes at) + pairBytesAt bytes at)
+          (and-left d p (and-right b (d and p) (and-right a (b and d and p) e)));
+      pairs = and-right d p (and-right b (d and p) (and-right a (b and d and p) e));
+    }

@@ -1,0 +1,5 @@
+-- Laws that belong to no one function; other crates cite them.
+pub mod LayoutLaws
+pub mod Parsing
+pub mod Walk
+pub mod Keys

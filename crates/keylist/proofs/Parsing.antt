@@ -1,0 +1,68 @@
+-- How reading a list goes on from an offset: at the end, at a bad configuration, at a good one; and the walk over a list that is
+-- known to be good.
+-- Assumes nothing.
+use mathlib.Core.Path.{_≡_, refl, sym, ap, _∙_}
+use mathlib.Core.Bool.{Bool, true, false, not}
+use mathlib.Core.List.{List, [], _∷_, _++_}
+use Prim.Native.Nat.{ℕ, zero, suc, _+_, _-_, _≤_, _<_}
+use native.Mathlib.Nat.{add-suc, suc-add}
+use native.Mathlib.Numerals.{add-one}
+use native.Mathlib.Omega.{arith}
+use borrow.Author.Tests.{le-leb, lt-leb}
+use lib.ListN.{length}
+use Rattle.wire.specs.Tests.{pick, _and_}
+use Rattle.wire.specs.Search.{among}
+use Rattle.wire.specs.Refusals.{badList}
+use Rattle.wire.proofs.Booleans.{either, and-left}
+use Rattle.keylist.specs.declared.Checked.{Checked}
+use Rattle.keylist.specs.Layout.{Configuration, Outcome, good, bad, parse, parseFrom, followedBy, configurationAt, layoutHolds, keyIdAt, nextStart, mostConfigurations}
+use Rattle.keylist.specs.Answers.{checked}
+use Rattle.keylist.proofs.LayoutLaws.{Holds, holds}
+
+-- the test of one configuration
+abbrev pub goodAt : List ℕ → List ℕ → ℕ → Bool
+goodAt taken bytes at = layoutHolds bytes at and not (among taken (keyIdAt bytes at))
+
+module _ (more : ℕ) (taken bytes : List ℕ) (at : ℕ) where
+  pub parse-end : length bytes ≤ at → parseFrom more taken bytes at ≡ good []
+  unfolding parseFrom
+  parse-end h = elim more [ zero ↦ rw (le-leb (length bytes) at h) | suc n ↦ rw (le-leb (length bytes) at h) ]
+
+  pub parse-bad : at < length bytes → goodAt taken bytes at ≡ false → parseFrom more taken bytes at ≡ bad (badList at)
+  unfolding parseFrom
+  parse-bad h e = elim more [ zero ↦ rw (lt-leb (length bytes) at h) | suc n ↦ rw (lt-leb (length bytes) at h, e) ]
+
+  pub parse-too-many : at < length bytes → more ≡ 0 → parseFrom more taken bytes at ≡ bad (badList at)
+  unfolding parseFrom
+  parse-too-many h e = rw (e, lt-leb (length bytes) at h)
+
+  pub parse-more : at < length bytes → goodAt taken bytes at ≡ true
+      → parseFrom (suc more) taken bytes at
+      ≡ followedBy (configurationAt bytes at) (parseFrom more (taken ++ keyIdAt bytes at ∷ []) bytes (nextStart bytes at))
+  unfolding parseFrom
+  parse-more h e = rw (lt-leb (length bytes) at h, e)
+
+pub parse-some : (bytes : List ℕ) → 0 < length bytes → parse bytes ≡ parseFrom mostConfigurations [] bytes 0
+unfolding parse
+parse-some [] h = absurd (omega arith)
+parse-some (b ∷ bytes) h = refl
+
+pub parse-none : (bytes : List ℕ) → length bytes ≡ 0 → parse bytes ≡ bad (badList 0)
+unfolding parse
+parse-none [] h = refl
+parse-none (b ∷ bytes) h = absurd (omega arith)
+
+-- the answer of check, with so many configurations before
+unfoldable pub counted : ℕ → Outcome (List Configuration) → Checked
+counted n (good cs) = Checked.Good (n + length cs)
+counted n (bad r) = Checked.Refused r
+
+pub counted-none : (p : Outcome (List Configuration)) → checked p ≡ counted 0 p
+unfolding counted
+counted-none (good cs) = ap Checked.Good (omega arith)
+counted-none (bad r) = refl
+
+pub counted-one : (n : ℕ) (c : Configuration) (p : Outcome (List Configuration)) → counted n (followedBy c p) ≡ counted (n + 1) p
+unfolding counted
+counted-one n c (good cs) = ap Checked.Good (omega arith)
+counted-one n c (bad r) = refl

@@ -1,0 +1,109 @@
+-- 01, "Layouts", the key list (RFC 9458, 3.1 and 3.2): a list of bytes read into configurations, or refused with its place.
+use Prim.Native.Nat.{ℕ, zero, suc, _+_, _*_, _/_, _%_}
+use mathlib.Core.Bool.{Bool, true, false, not}
+use mathlib.Core.List.{List, [], _∷_, _++_}
+use lib.Dec.{eqb, leb}
+use lib.ListN.{length}
+use Rattle.wire.specs.Tests.{pick, _and_}
+use Rattle.wire.specs.Bytes.{byteAt, wordAt, part}
+use Rattle.wire.specs.Search.{among}
+use Rattle.wire.specs.Refusals.{badList}
+use Rattle.wire.specs.declared.refusal.Refusal.{Refusal}
+use Rattle.algorithms.specs.Sizes.{knownKem, publicKeyLength}
+
+-- the house limits
+abbrev pub mostConfigurations : ℕ
+mostConfigurations = 16
+
+abbrev pub mostPairBytes : ℕ
+mostPairBytes = 64
+
+-- a pair of KDF and AEAD
+pub record Pair : Type 0 where
+  pub kdf : ℕ
+  pub aead : ℕ
+
+-- a configuration, and the offset of its length in the list
+pub record Configuration : Type 0 where
+  pub start : ℕ
+  pub keyId : ℕ
+  pub kem : ℕ
+  pub publicKey : List ℕ
+  pub pairs : List Pair
+
+-- a result, or a refusal
+pub data Outcome (A : Type 0) : Type 0 where
+  good : A → Outcome A
+  bad : Refusal → Outcome A
+
+-- The fields of the configuration whose length stands at an offset: L, key id, KEM, S, and where its parts lie.
+abbrev pub lengthAt : List ℕ → ℕ → ℕ
+lengthAt bytes at = wordAt bytes at
+
+abbrev pub keyIdAt : List ℕ → ℕ → ℕ
+keyIdAt bytes at = byteAt bytes (at + 2)
+
+abbrev pub kemAt : List ℕ → ℕ → ℕ
+kemAt bytes at = wordAt bytes (at + 3)
+
+abbrev pub keyStart : ℕ → ℕ
+keyStart at = at + 5
+
+abbrev pub keyEnd : List ℕ → ℕ → ℕ
+keyEnd bytes at = keyStart at + publicKeyLength (kemAt bytes at)
+
+abbrev pub pairBytesAt : List ℕ → ℕ → ℕ
+pairBytesAt bytes at = wordAt bytes (keyEnd bytes at)
+
+abbrev pub pairsStart : List ℕ → ℕ → ℕ
+pairsStart bytes at = keyEnd bytes at + 2
+
+abbrev pub nextStart : List ℕ → ℕ → ℕ
+nextStart bytes at = at + 2 + lengthAt bytes at
+
+-- as many pairs, one after the other
+unfoldable pub pairsAt : ℕ → List ℕ → ℕ → List Pair
+pairsAt zero bytes at = []
+pairsAt (suc count) bytes at =
+    record { kdf = wordAt bytes at; aead = wordAt bytes (at + 2) } ∷ pairsAt count bytes (at + 4)
+
+unfoldable pub configurationAt : List ℕ → ℕ → Configuration
+configurationAt bytes at =
+    record {
+      start = at;
+      keyId = keyIdAt bytes at;
+      kem = kemAt bytes at;
+      publicKey = part bytes (keyStart at) (publicKeyLength (kemAt bytes at));
+      pairs = pairsAt (pairBytesAt bytes at / 4) bytes (pairsStart bytes at);
+    }
+
+-- S is a multiple of 4, at least 4 and within the house limit
+abbrev pub pairBytesHold : ℕ → Bool
+pairBytesHold size = eqb (size % 4) 0 and leb 4 size and leb size mostPairBytes
+
+-- the layout's rules for one configuration: it lies whole in the list, its KEM is known, L = 5 + Npk + S, and S
+unfoldable pub layoutHolds : List ℕ → ℕ → Bool
+layoutHolds bytes at =
+    leb (nextStart bytes at) (length bytes)
+    and knownKem (kemAt bytes at)
+    and eqb (lengthAt bytes at) (5 + publicKeyLength (kemAt bytes at) + pairBytesAt bytes at)
+    and pairBytesHold (pairBytesAt bytes at)
+
+-- a configuration in front of those that follow
+abbrev pub followedBy : Configuration → Outcome (List Configuration) → Outcome (List Configuration)
+followedBy c (good cs) = good (c ∷ cs)
+followedBy c (bad r) = bad r
+
+-- the configurations from an offset on, where so many more may come and these key ids are taken
+unfoldable pub parseFrom : ℕ → List ℕ → List ℕ → ℕ → Outcome (List Configuration)
+parseFrom zero taken bytes at = pick (leb (length bytes) at) (good []) (bad (badList at))
+parseFrom (suc more) taken bytes at =
+    pick (leb (length bytes) at) (good [])
+    (pick (layoutHolds bytes at and not (among taken (keyIdAt bytes at)))
+    (followedBy (configurationAt bytes at) (parseFrom more (taken ++ keyIdAt bytes at ∷ []) bytes (nextStart bytes at)))
+    (bad (badList at)))
+
+-- a list is one configuration or more; a bad one is refused whole, at its first bad configuration
+unfoldable pub parse : List ℕ → Outcome (List Configuration)
+parse [] = bad (badList 0)
+parse (b ∷ bytes) = parseFrom mostConfigurations [] (b ∷ bytes) 0

@@ -1,0 +1,134 @@
+// Reads a key list: whether it is good as a whole, and the fields of one configuration.
+ghost use mathlib.Core.Path.{_≡_};
+ghost use Prim.Native.Nat.{_<_, _≤_};
+ghost use mathlib.Core.Bool.{not};
+ghost use lib.ListN.{length};
+ghost use Rattle.wire.specs.Tests.{_and_};
+ghost use Rattle.wire.specs.Search.{among};
+ghost use Rattle.wire.specs.Refusals.{badList};
+ghost use Rattle.algorithms.specs.Sizes.{publicKeyLength};
+ghost use Rattle.keylist.specs.Layout.{parse, layoutHolds, pairBytesHold, keyIdAt};
+ghost use Rattle.keylist.specs.Answers.{checked, placeAt};
+use crate::Checked;
+use crate::Place;
+use algorithms::Kem;
+use algorithms::Size;
+use wire::bytes::byte_at;
+use wire::bytes::word_at;
+use wire::refusal::Refusal;
+use wire::search::has_byte;
+
+// The house limits.
+pub const MOST_CONFIGURATIONS: usize = 16;
+
+pub const MOST_PAIR_BYTES: usize = 64;
+
+// 15, with its place.
+pub fn bad_list(place: usize) -> Refusal
+    ensures { λ r. ⌜ r ≡ badList place ⌝ }
+{
+    Refusal { number: 15, place }
+}
+
+// So many pair bytes may be in one configuration.
+pub fn pair_bytes_hold(size: usize) -> bool
+    ensures { λ r. ⌜ r ≡ pairBytesHold size ⌝ }
+{
+    if size % 4 != 0 {
+        return false;
+    }
+    if size < 4 {
+        return false;
+    }
+    size <= MOST_PAIR_BYTES
+}
+
+// The configuration at an offset of the list keeps the layout's rules.
+fn layout_holds(list: &[u8], at: usize) -> bool
+    requires { ⌜ at < length (now list) ⌝ }
+    ensures { λ r. ⌜ r ≡ layoutHolds (now (list .entry)) at ⌝ }
+{
+    let length = word_at(list, at) as usize;
+    if list.len() < at + 2 + length {
+        return false;
+    }
+    let key = key_length(word_at(list, at + 3));
+    if key == 0 {
+        return false;
+    }
+    let pair_bytes = word_at(list, at + 5 + key) as usize;
+    if length != 5 + key + pair_bytes {
+        return false;
+    }
+    pair_bytes_hold(pair_bytes)
+}
+
+// The same, and its key id is not taken.
+fn is_good(list: &[u8], at: usize, taken: &[u8]) -> bool
+    requires { ⌜ at < length (now list) ⌝ }
+    ensures { λ r. ⌜ r ≡ (layoutHolds (now (list .entry)) at and not (among (now (taken .entry)) (keyIdAt (now (list .entry)) at))) ⌝ }
+{
+    if layout_holds(list, at) {
+        !has_byte(taken, byte_at(list, at + 2))
+    } else {
+        false
+    }
+}
+
+// The number of configurations of a list, or 15 with the place of the first bad one.
+pub fn check(list: &[u8]) -> Checked
+    ensures { λ r. ⌜ r ≡ checked (parse (now (list .entry))) ⌝ }
+{
+    if list.len() == 0 {
+        return Checked::Refused(bad_list(0));
+    }
+    let mut taken = [0u8; MOST_CONFIGURATIONS];
+    let mut count = 0;
+    let mut at = 0;
+    while at < list.len() {
+        if count == MOST_CONFIGURATIONS {
+            return Checked::Refused(bad_list(at));
+        }
+        if !is_good(list, at, &taken[..count]) {
+            return Checked::Refused(bad_list(at));
+        }
+        taken[count] = byte_at(list, at + 2);
+        count += 1;
+        at = at + 2 + (word_at(list, at) as usize);
+    }
+    Checked::Good(count)
+}
+
+// The fields of the configuration whose length stands at an offset, and where its parts lie.
+pub fn place_at(list: &[u8], at: usize) -> Place
+    ensures { λ r. ⌜ r ≡ placeAt (now (list .entry)) at ⌝ }
+{
+    if list.len() <= at {
+        return Place {
+            key_id: 0,
+            kem: 0,
+            key_start: 0,
+            key_end: 0,
+            end: at,
+        };
+    }
+    let kem = word_at(list, at + 3);
+    Place {
+        key_id: byte_at(list, at + 2),
+        kem,
+        key_start: at + 5,
+        key_end: at + 5 + key_length(kem),
+        end: at + 2 + (word_at(list, at) as usize),
+    }
+}
+
+// Npk, 0 where the KEM is unknown.
+fn key_length(kem: u16) -> usize
+    ensures { λ r. ⌜ r ≡ publicKeyLength kem ⌝ }
+    ensures bound { λ r. ⌜ r ≤ 133 ⌝ }
+{
+    match Kem(kem).public_key_length() {
+        Size::Bytes(key) => key,
+        Size::Unknown => 0,
+    }
+}

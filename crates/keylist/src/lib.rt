@@ -1,0 +1,36 @@
+// Key lists (01, "Key list"; RFC 9458, 3.1 and 3.2): check, key reader and list writer.
+pub mod check;
+pub mod key;
+pub mod writer;
+
+use wire::refusal::Refusal;
+
+// 01's key id: the first byte of a configuration and of a request.
+pub struct KeyId(pub u8);
+
+// The number of configurations, or the refusal.
+pub enum Checked {
+    Good(usize),
+    Refused(Refusal),
+}
+
+// Where a public key starts and ends in its list, or the refusal.
+pub enum KeyPlace {
+    Found(usize, usize),
+    Refused(Refusal),
+}
+
+// The length of the list that was written, or the refusal.
+pub enum Written {
+    Length(usize),
+    Refused(Refusal),
+}
+
+// The fields of one configuration, and where its parts lie: its pairs from two bytes behind the key up to the end.
+pub struct Place {
+    pub key_id: u8,
+    pub kem: u16,
+    pub key_start: usize,
+    pub key_end: usize,
+    pub end: usize,
+}
