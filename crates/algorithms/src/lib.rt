@@ -2,7 +2,7 @@
 ghost use mathlib.Core.Path.{_≡_};
 ghost use Prim.Native.Nat.{max};
 ghost use Rattle.algorithms.specs.Table.{isRow, rowOf};
-ghost use Rattle.algorithms.specs.Sizes.{isKnown, sizeOf, knownKem, knownKdf, knownAead, encLength, publicKeyLength, shortestRequest, keyLength, responseNonceLength};
+ghost use Rattle.algorithms.specs.Sizes.{isKnown, sizeOf, knownKem, knownKdf, knownAead, knownPair, encLength, publicKeyLength, shortestRequest, keyLength, responseNonceLength};
 
 // A row of the table. A KEM has Nenc and Npk, an AEAD has Nk; what an algorithm does not have is 0.
 pub struct Row {
@@ -218,6 +218,13 @@ impl Aead {
     // Nn: the length of a nonce.
     pub const NONCE: usize = 12;
 
+    pub fn is_known(self) -> bool
+        ensures { λ r. ⌜ r ≡ knownAead (self .0) ⌝ }
+    {
+        let row = row_of(AEAD, self.0);
+        row.is_known()
+    }
+
     // Nk: the length of a key.
     pub fn key_length(self) -> Size
         ensures { λ r. ⌜ r ≡ sizeOf (knownAead (self .0)) (keyLength (self .0)) ⌝ }
@@ -232,5 +239,16 @@ impl Aead {
     {
         let row = row_of(AEAD, self.0);
         row.size(larger(Aead::NONCE, row.key as usize))
+    }
+}
+
+// A pair is known where both its numbers are.
+pub fn is_known_pair(kdf: Kdf, aead: Aead) -> bool
+    ensures { λ r. ⌜ r ≡ knownPair (kdf .0) (aead .0) ⌝ }
+{
+    if kdf.is_known() {
+        aead.is_known()
+    } else {
+        false
     }
 }

@@ -1,13 +1,12 @@
 -- 01, "Head": 7 + Nenc bytes of the request and 29 bytes of info, each at the front of its buffer; 3, 6, 13, 14.
 use Prim.Native.Nat.{ℕ, zero, suc, _+_}
-use mathlib.Core.Bool.{Bool, true, false, not}
-use mathlib.Core.List.{List, [], _∷_, _++_}
-use lib.Dec.{eqb, leb, ltb}
+use mathlib.Core.Bool.{not}
+use mathlib.Core.List.{List}
+use lib.Dec.{eqb, leb}
 use lib.ListN.{length}
-use Rattle.wire.specs.Tests.{pick, _and_}
+use Rattle.wire.specs.Tests.{_and_}
 use Rattle.wire.specs.Bytes.{withFront}
 use Rattle.wire.specs.Refusals.{_when_otherwise_, refused}
-use Rattle.wire.specs.Texts.{headBytes, infoBytes}
 use Rattle.algorithms.specs.Sizes.{knownKem, knownPair, encLength, headLength}
 use Rattle.client.specs.declared.head.Headed.{Headed}
 

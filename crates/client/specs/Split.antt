@@ -1,10 +1,13 @@
 -- 01, "Split": a response is its nonce, of max(Nn, Nk) bytes, and a ciphertext of 16 to 65,552 bytes; 6, 1, 2.
-use Prim.Native.Nat.{ℕ, zero, suc, _+_, _-_}
-use mathlib.Core.Bool.{Bool, true, false, not}
-use mathlib.Core.List.{List, [], _∷_}
+use Prim.Native.Nat.{ℕ, zero, suc, _+_}
+use mathlib.Core.Path.{_≡_}
+use mathlib.Core.Logic.{_↔_}
+use mathlib.Core.Bool.{not}
+use mathlib.Core.List.{List, [], _++_}
 use lib.Dec.{ltb}
 use lib.ListN.{length, take, drop}
 use Rattle.wire.specs.Refusals.{_when_otherwise_, refused}
+use Rattle.wire.specs.declared.refusal.Refusal.{Refusal}
 use Rattle.algorithms.specs.Sizes.{knownAead, responseNonceLength, tagLength}
 use Rattle.client.specs.declared.split.Parts.{Parts}
 
@@ -36,3 +39,16 @@ noncePart response (Parts.Refused r) = []
 abbrev pub ciphertextPart : List ℕ → Parts → List ℕ
 ciphertextPart response (Parts.Meet at) = drop at response
 ciphertextPart response (Parts.Refused r) = []
+
+abbrev pub IsRefused : Parts → Type 0
+IsRefused answer = (r : Refusal) × (answer ≡ Parts.Refused r)
+
+-- each part is empty exactly on refusal, and the two parts of a response that is not refused are the whole of it
+pub record PartsEmptyOnRefusal : Type 0 where
+  pub nonce : (aead : ℕ) (response : List ℕ)
+      → (noncePart response (splitAnswer aead (length response)) ≡ []) ↔ IsRefused (splitAnswer aead (length response))
+  pub ciphertext : (aead : ℕ) (response : List ℕ)
+      → (ciphertextPart response (splitAnswer aead (length response)) ≡ []) ↔ IsRefused (splitAnswer aead (length response))
+  pub whole : (aead at : ℕ) (response : List ℕ) → splitAnswer aead (length response) ≡ Parts.Meet at
+      → noncePart response (splitAnswer aead (length response)) ++ ciphertextPart response (splitAnswer aead (length response))
+      ≡ response

@@ -10,11 +10,71 @@ use algorithms::Aead;
 use algorithms::Kdf;
 use algorithms::Kem;
 use algorithms::Size;
+use algorithms::is_known_pair;
 use keylist::KeyId;
+use wire::bytes::overwrite;
 use wire::refusal::Refusal;
+use wire::texts;
 
 // The length of the head that was written, or the refusal.
 pub enum Headed {
     Length(usize),
     Refused(Refusal),
+}
+
+// The length of info.
+const INFO: usize = 29;
+
+// Writes the head of a request and its info, each at the front of its buffer, or refuses and writes nothing.
+pub fn write(
+    key_id: KeyId,
+    kem: Kem,
+    kdf: Kdf,
+    aead: Aead,
+    enc: &[u8],
+    head: &mut [u8],
+    info: &mut [u8],
+) -> Headed
+    ensures answer { λ r. ⌜ r ≡ headed
+        (headRefusal (kem .0) (kdf .0) (aead .0) (now (enc .entry)) (length (now (head .entry))) (length (now (info .entry))))
+        (headLength + encLength (kem .0)) ⌝ }
+    ensures request { λ r. ⌜ now (head .exit) ≡ unlessRefused
+        (headRefusal (kem .0) (kdf .0) (aead .0) (now (enc .entry)) (length (now (head .entry))) (length (now (info .entry))))
+        (headBytes («key_id» .0) (kem .0) (kdf .0) (aead .0) ++ now (enc .entry)) (now (head .entry)) ⌝ }
+    ensures context { λ r. ⌜ now (info .exit) ≡ unlessRefused
+        (headRefusal (kem .0) (kdf .0) (aead .0) (now (enc .entry)) (length (now (head .entry))) (length (now (info .entry))))
+        (infoBytes (headBytes («key_id» .0) (kem .0) (kdf .0) (aead .0))) (now (info .entry)) ⌝ }
+{
+    let number = refusal(kem, kdf, aead, enc, head.len(), info.len());
+    if number != 0 {
+        return Headed::Refused(Refusal { number, place: 0 });
+    }
+    let front = texts::head(key_id.0, kem.0, kdf.0, aead.0);
+    overwrite(head, 0, &front);
+    overwrite(head, Kem::HEAD, enc);
+    let context = texts::info(front);
+    overwrite(info, 0, &context);
+    Headed::Length(Kem::HEAD + enc.len())
+}
+
+// The number of the first refusal that applies, 0 where none does.
+fn refusal(kem: Kem, kdf: Kdf, aead: Aead, enc: &[u8], head_room: usize, info_room: usize) -> u8
+    ensures { λ r. ⌜ r ≡ headRefusal (kem .0) (kdf .0) (aead .0) (now (enc .entry)) «head_room» «info_room» ⌝ }
+{
+    let Size::Bytes(size) = kem.enc_length() else {
+        return 3;
+    };
+    if !is_known_pair(kdf, aead) {
+        return 6;
+    }
+    if enc.len() != size {
+        return 13;
+    }
+    if head_room < Kem::HEAD + size {
+        return 14;
+    }
+    if info_room < INFO {
+        return 14;
+    }
+    0
 }

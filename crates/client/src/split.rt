@@ -1,6 +1,8 @@
 // The two parts of a response.
 ghost use mathlib.Core.Path.{_≡_};
 ghost use lib.ListN.{length};
+ghost use Rattle.wire.specs.Refusals.{refused};
+ghost use Rattle.client.specs.declared.split.Parts.{Parts};
 ghost use Rattle.client.specs.Split.{splitAnswer, noncePart, ciphertextPart};
 use algorithms::Aead;
 use algorithms::Size;
@@ -51,6 +53,9 @@ pub fn ciphertext(aead: Aead, response: &[u8]) -> &[u8]
 // The longest plain response.
 const LONGEST_PLAIN: usize = 65536;
 
-fn refused(number: u8) -> Parts {
+// A refusal of this number.
+fn refused(number: u8) -> Parts
+    ensures { λ r. ⌜ r ≡ Parts.Refused (refused number) ⌝ }
+{
     Parts::Refused(Refusal { number, place: 0 })
 }

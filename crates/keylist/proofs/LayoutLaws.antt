@@ -3,16 +3,16 @@
 use mathlib.Core.Path.{_≡_, refl, sym, _∙_}
 use mathlib.Core.Bool.{Bool, true, false, not}
 use mathlib.Core.List.{List}
-use Prim.Native.Nat.{ℕ, _+_, _≤_, _<_}
+use Prim.Native.Nat.{ℕ, _+_, _%_, _≤_, _<_}
 use native.Mathlib.Omega.{arith}
 use borrow.Author.Tests.{lt-leb, le-leb, eq-eqb, ne-eqb, leb-true, eqb-true}
 use lib.Dec.{eqb, leb}
 use lib.ListN.{length}
 use Rattle.wire.specs.Tests.{_and_}
-use Rattle.wire.proofs.Booleans.{either, and-left, and-right, true-or-false}
+use Rattle.wire.proofs.Booleans.{either, and-left, and-right, and-false}
 use Rattle.algorithms.specs.Sizes.{knownKem, publicKeyLength}
 use Rattle.algorithms.proofs.Stated.{size-bounds}
-use Rattle.keylist.specs.Layout.{layoutHolds, nextStart, kemAt, lengthAt, pairBytesAt, pairBytesHold}
+use Rattle.keylist.specs.Layout.{layoutHolds, nextStart, kemAt, lengthAt, pairBytesAt, pairBytesHold, mostPairBytes}
 
 -- a KEM with a key length above 0 is known, and one with 0 is not
 pub known-by-length : (kem : ℕ) → 0 < publicKeyLength kem → knownKem kem ≡ true
@@ -25,6 +25,12 @@ unknown-by-length kem h =
     either (knownKem kem)
     (λ e. absurd (let z : 0 < publicKeyLength kem = size-bounds .keyIsThere kem e in omega arith))
     (λ e. e)
+
+-- above the house limit no number of pair bytes holds
+pub pairs-above : (size : ℕ) → mostPairBytes < size → pairBytesHold size ≡ false
+pairs-above size h =
+    and-false (eqb (size % 4) 0) (leb 4 size and leb size mostPairBytes)
+    (and-false (leb 4 size) (leb size mostPairBytes) (lt-leb size mostPairBytes h))
 
 module _ (bytes : List ℕ) (at : ℕ) where
   -- the list ends first

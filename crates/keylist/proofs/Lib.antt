@@ -3,3 +3,8 @@ pub mod LayoutLaws
 pub mod Parsing
 pub mod Walk
 pub mod Keys
+pub mod Words
+pub mod OneConfiguration
+pub mod RoundTrip
+pub mod FieldsWalk
+pub mod Writing

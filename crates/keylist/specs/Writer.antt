@@ -1,6 +1,7 @@
 -- 01, "List writer": configurations given as fields, written by the layout or refused. The fields are lists: key ids, KEMs,
 -- public key lengths, the key bytes of all, how many pair numbers each has, and the pair numbers of all, KDF and AEAD by turns.
-use Prim.Native.Nat.{ℕ, zero, suc, _+_, _*_}
+use Prim.Native.Nat.{ℕ, zero, suc, _+_, _*_, _≤_}
+use mathlib.Core.Path.{_≡_}
 use mathlib.Core.Bool.{Bool, true, false, not}
 use mathlib.Core.List.{List, [], _∷_, _++_}
 use lib.Dec.{eqb, leb, ltb}
@@ -21,6 +22,10 @@ pub record Fields : Type 0 where
   pub keys : List ℕ
   pub pairCounts : List ℕ
   pub pairs : List ℕ
+
+abbrev pub fields : List ℕ → List ℕ → List ℕ → List ℕ → List ℕ → Fields
+fields kems keyLengths keys pairCounts pairs =
+    record { kems = kems; keyLengths = keyLengths; keys = keys; pairCounts = pairCounts; pairs = pairs }
 
 -- the first configuration's KEM, announced lengths and what there is of its key and pairs; a missing number counts as 0
 abbrev pub firstKem : Fields → ℕ
@@ -49,6 +54,17 @@ behindFirst f =
       pairs = drop (firstPairCount f) (f .pairs);
     }
 
+-- the fields from the configuration of an index on, whose key bytes and pair numbers start at these places
+abbrev pub fieldsFrom : Fields → ℕ → ℕ → ℕ → Fields
+fieldsFrom f index keyAt pairAt =
+    record {
+      kems = drop index (f .kems);
+      keyLengths = drop index (f .keyLengths);
+      keys = drop keyAt (f .keys);
+      pairCounts = drop index (f .pairCounts);
+      pairs = drop pairAt (f .pairs);
+    }
+
 -- nothing is left over
 abbrev pub noneLeft : Fields → Bool
 noneLeft f =
@@ -58,24 +74,34 @@ noneLeft f =
     and eqb (length (f .pairCounts)) 0
     and eqb (length (f .pairs)) 0
 
--- the layout's rules for the first configuration, with a key and pairs as long as announced
+-- the layout's rules for one configuration: KEM, key length announced and key bytes left, pair numbers announced and left
+abbrev pub fieldsHold : ℕ → ℕ → ℕ → ℕ → ℕ → Bool
+fieldsHold kem keyLength keysLeft pairCount pairsLeft =
+    knownKem kem
+    and eqb keyLength (publicKeyLength kem)
+    and leb keyLength keysLeft
+    and pairBytesHold (pairCount * 2)
+    and leb pairCount pairsLeft
+
 unfoldable pub firstHolds : Fields → Bool
-firstHolds f =
-    knownKem (firstKem f)
-    and eqb (firstKeyLength f) (publicKeyLength (firstKem f))
-    and leb (firstKeyLength f) (length (f .keys))
-    and pairBytesHold (firstPairCount f * 2)
-    and leb (firstPairCount f) (length (f .pairs))
+firstHolds f = fieldsHold (firstKem f) (firstKeyLength f) (length (f .keys)) (firstPairCount f) (length (f .pairs))
 
--- L of the first configuration
+-- L
+abbrev pub lengthOf : ℕ → ℕ → ℕ
+lengthOf keyLength pairCount = 5 + keyLength + pairCount * 2
+
+-- the bytes of one configuration
+abbrev pub configurationBytes : ℕ → ℕ → ℕ → List ℕ → ℕ → List ℕ → List ℕ
+configurationBytes keyId kem keyLength key pairCount pairs =
+    wordBytes (lengthOf keyLength pairCount) ++ keyId ∷ wordBytes kem ++ key
+    ++ wordBytes (pairCount * 2) ++ wordsBytes pairs
+
 abbrev pub firstLength : Fields → ℕ
-firstLength f = 5 + firstKeyLength f + firstPairCount f * 2
+firstLength f = lengthOf (firstKeyLength f) (firstPairCount f)
 
--- the bytes of the first configuration
 abbrev pub firstBytes : ℕ → Fields → List ℕ
 firstBytes keyId f =
-    wordBytes (firstLength f) ++ keyId ∷ wordBytes (firstKem f) ++ firstKey f
-    ++ wordBytes (firstPairCount f * 2) ++ wordsBytes (firstPairs f)
+    configurationBytes keyId (firstKem f) (firstKeyLength f) (firstKey f) (firstPairCount f) (firstPairs f)
 
 -- bytes in front of those that follow
 abbrev pub inFrontOf : List ℕ → Outcome (List ℕ) → Outcome (List ℕ)
@@ -96,6 +122,11 @@ unfoldable pub encode : List ℕ → Fields → Outcome (List ℕ)
 encode [] f = bad (badList 0)
 encode (id ∷ ids) f = encodeFrom mostConfigurations [] 0 (id ∷ ids) f
 
+-- the length of the list, or the refusal, before any buffer is looked at
+abbrev pub lengthWritten : Outcome (List ℕ) → Written
+lengthWritten (good bytes) = Written.Length (length bytes)
+lengthWritten (bad r) = Written.Refused r
+
 -- the answer for a buffer of a length: 15 with the place, then 14, or the length written
 abbrev pub writtenIn : ℕ → Outcome (List ℕ) → Written
 writtenIn room (good bytes) = pick (leb (length bytes) room) (Written.Length (length bytes)) (Written.Refused (refused 14))
@@ -105,3 +136,7 @@ writtenIn room (bad r) = Written.Refused r
 abbrev pub writtenTo : List ℕ → Outcome (List ℕ) → List ℕ
 writtenTo buffer (good bytes) = pick (leb (length bytes) (length buffer)) (withFront bytes buffer) buffer
 writtenTo buffer (bad r) = buffer
+
+-- the fields keep the layout's rules, and there is room for their list
+abbrev pub Fitting : Outcome (List ℕ) → ℕ → Type 0
+Fitting outcome room = (bytes : List ℕ) × (outcome ≡ good bytes) × (length bytes ≤ room)

@@ -123,7 +123,7 @@ pub fn place_at(list: &[u8], at: usize) -> Place
 }
 
 // Npk, 0 where the KEM is unknown.
-fn key_length(kem: u16) -> usize
+pub fn key_length(kem: u16) -> usize
     ensures { λ r. ⌜ r ≡ publicKeyLength kem ⌝ }
     ensures bound { λ r. ⌜ r ≤ 133 ⌝ }
 {

@@ -21,3 +21,7 @@ and-left false b e = e
 pub and-right : (a b : Bool) → (a and b) ≡ true → b ≡ true
 and-right true b e = e
 and-right false b e = absurd (true-or-false e refl)
+
+pub and-false : (a b : Bool) → b ≡ false → (a and b) ≡ false
+and-false true b e = e
+and-false false b e = refl
