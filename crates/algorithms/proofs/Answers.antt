@@ -4,7 +4,6 @@ use mathlib.Core.Path.{_≡_, refl}
 use mathlib.Core.Bool.{Bool, true, false}
 use Prim.Native.Nat.{ℕ}
 use native.Mathlib.Omega.{arith}
-use Rattle.algorithms.specs.declared.Size.{Size}
 use Rattle.algorithms.specs.declared.Size.the-variants.{Bytes, Unknown}
 use Rattle.algorithms.specs.Sizes.{sizeOf}
 

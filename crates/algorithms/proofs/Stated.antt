@@ -1,20 +1,20 @@
 -- The statements of specs/Stated, proved.
 -- Assumes nothing.
-use mathlib.Core.Path.{_≡_, refl, sym, ap, _∙_}
-use mathlib.Core.Bool.{Bool, true, false, not}
+use mathlib.Core.Path.{_≡_, refl}
+use mathlib.Core.Bool.{Bool, true, false}
 use mathlib.Core.List.{List, [], _∷_}
 use lib.ListN.{getD, length, List·getD-eq-default}
-use Prim.Native.Nat.{ℕ, _≤_, _<_, max}
+use Prim.Native.Nat.{ℕ, _≤_, _<_}
 use native.Mathlib.Omega.{arith}
 use lib.Dec.{eqb, leb, ltb}
 use borrow.Author.Tests.{leb-true, eqb-true, ltb-true, ltb-false, not-false}
-use Rattle.wire.specs.Tests.{_and_, pick}
+use Rattle.wire.specs.Tests.{pick}
 use Rattle.wire.specs.Search.{firstPlace, anyPasses, among}
 use Rattle.wire.proofs.Booleans.{either, and-left, and-right, true-or-false}
 use Rattle.wire.proofs.Matches.{first-passes}
 use Rattle.algorithms.specs.declared.Row.{Row}
 use Rattle.algorithms.specs.Table.{table, rowOf, isRow, noRow, kemKind, kdfKind, aeadKind}
-use Rattle.algorithms.specs.Sizes.{isKnown, knownKem, knownKdf, knownAead, encLength, publicKeyLength, keyLength, responseNonceLength}
+use Rattle.algorithms.specs.Sizes.{isKnown, knownKem, knownKdf, knownAead, encLength, publicKeyLength, keyLength}
 use Rattle.algorithms.specs.Stated.{SizesOfThePaper, KnownNumbers, SizeBounds}
 use Rattle.algorithms.proofs.Rows.{of-row, every}
 

@@ -2,7 +2,7 @@
 -- facts about sizes that other crates use, over every number.
 use Prim.Native.Nat.{ℕ, _≤_, _<_}
 use mathlib.Core.Path.{_≡_}
-use mathlib.Core.Bool.{Bool, true, false}
+use mathlib.Core.Bool.{true, false}
 use mathlib.Core.List.{List, [], _∷_, map}
 use Rattle.wire.specs.Search.{among}
 use Rattle.algorithms.specs.Sizes.{knownKem, knownKdf, knownAead, encLength, publicKeyLength, keyLength, shortestRequest, responseNonceLength}

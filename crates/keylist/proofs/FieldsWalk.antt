@@ -8,23 +8,22 @@ use mathlib.Core.Logic.{⊎-elim}
 use native.Mathlib.Nat.{add-zero, eq-or-lt-of-le}
 use native.Mathlib.Numerals.{add-one}
 use native.Mathlib.Omega.{arith}
-use borrow.Author.Tests.{eq-eqb, ne-eqb, le-leb, lt-leb, leb-true, leb-false}
+use borrow.Author.Tests.{eq-eqb, ne-eqb, leb-true, leb-false}
 use lib.Dec.{eqb, leb}
 use lib.ListN.{length, getD, take, drop, length-drop, length-take, length-append, drop-of-length-le}
 use lib.Seq.{drop-drop, drop-cons, getD-drop, take-suc, take-add, take-append-seam, length-take-le}
 use Rattle.wire.specs.Tests.{pick, _and_}
-use Rattle.wire.specs.Bytes.{wordBytes, wordsBytes, overwritten, withFront}
+use Rattle.wire.specs.Bytes.{overwritten, withFront}
 use Rattle.wire.specs.Search.{among}
 use Rattle.wire.specs.Refusals.{badList}
-use Rattle.wire.specs.declared.refusal.Refusal.{Refusal}
 use Rattle.wire.proofs.Booleans.{either, and-left}
 use Rattle.wire.proofs.Writes.{front-more}
 use Rattle.wire.proofs.Words.{words-length}
 use Rattle.algorithms.proofs.Stated.{size-bounds}
 use Rattle.keylist.specs.declared.Written.{Written}
 use Rattle.keylist.specs.Layout.{Outcome, good, bad, mostConfigurations}
-use Rattle.keylist.specs.Writer.{Fields, fieldsFrom, fieldsHold, firstHolds, firstKem, firstKeyLength, firstPairCount, firstKey, firstPairs, behindFirst, noneLeft}
-use Rattle.keylist.specs.Writer.{lengthOf, firstLength, firstBytes, inFrontOf, encodeFrom, encode, lengthWritten}
+use Rattle.keylist.specs.Writer.{Fields, fieldsFrom, fieldsHold, firstHolds, firstKem, firstKeyLength, firstPairCount, firstPairs, behindFirst, noneLeft, lengthOf, firstLength, firstBytes, inFrontOf, encodeFrom, encode, lengthWritten}
+use Rattle.keylist.proofs.Parsing.{no-refusal}
 use Rattle.keylist.proofs.OneConfiguration.{first-says, same-fields}
 
 -- whether anything is left from a place on
@@ -236,21 +235,18 @@ pub record MoreGood (ids : List ℕ) (f : Fields) (i at k p : ℕ) (bytes : List
       (k + getD (f .keyLengths) i 0) (p + getD (f .pairCounts) i 0) ≡ good rest
   pub split : bytes ≡ firstBytes (getD ids i 0) (fieldsFrom f i k p) ++ rest
 
-no-result : {A : Type 0} {r : Refusal} {bytes : List ℕ} → bad r ≡ good bytes → A
-no-result e = absurd (let z : _≡_ {A = ℕ} 0 1 = cc in omega arith)
-
 front-split : (front : List ℕ) (o : Outcome (List ℕ)) (bytes : List ℕ) → inFrontOf front o ≡ good bytes
     → (rest : List ℕ) × (o ≡ good rest) × (bytes ≡ front ++ rest)
 front-split front (good rest) bytes e = (rest, refl, cc)
-front-split front (bad r) bytes e = no-result e
+front-split front (bad r) bytes e = no-refusal e
 
 module _ (ids : List ℕ) (f : Fields) (i at k p : ℕ) (bytes : List ℕ) (e : encodeAt ids f i at k p ≡ good bytes) where
   pub more-good : i < length ids → i ≤ mostConfigurations → MoreGood ids f i at k p bytes
   more-good h l =
       let below : i < mostConfigurations =
-      ⊎-elim (λ z. no-result (sym (at-too-many ids f i at k p h z) ∙ e)) (λ b. b) (eq-or-lt-of-le l) in
+      ⊎-elim (λ z. no-refusal (sym (at-too-many ids f i at k p h z) ∙ e)) (λ b. b) (eq-or-lt-of-le l) in
       let passes : writableAt ids f i k p ≡ true =
-      either (writableAt ids f i k p) (λ t. t) (λ t. no-result (sym (at-bad ids f i at k p h t) ∙ e)) in
+      either (writableAt ids f i k p) (λ t. t) (λ t. no-refusal (sym (at-bad ids f i at k p h t) ∙ e)) in
       let s =
       front-split (firstBytes (getD ids i 0) (fieldsFrom f i k p))
       (encodeAt ids f (i + 1) (at + 2 + lengthOf (getD (f .keyLengths) i 0) (getD (f .pairCounts) i 0))
@@ -261,7 +257,7 @@ module _ (ids : List ℕ) (f : Fields) (i at k p : ℕ) (bytes : List ℕ) (e : 
   end-good h =
       either (noneLeft (fieldsFrom f i k p))
       (λ t. let z : good [] ≡ good bytes = sym (at-end ids f i at k p h t) ∙ e in cc)
-      (λ t. no-result (sym (at-left-over ids f i at k p h t) ∙ e))
+      (λ t. no-refusal (sym (at-left-over ids f i at k p h t) ∙ e))
 
 -- one more configuration at the front of the buffer
 pub written-more : (bytes buffer : List ℕ) (at : ℕ) (front rest : List ℕ) → drop at bytes ≡ front ++ rest → at ≤ length bytes
@@ -278,5 +274,5 @@ written-more bytes buffer at front rest e h l =
 -- an encoding that goes well is of some key ids
 pub some-ids : (ids : List ℕ) (f : Fields) (bytes : List ℕ) → encode ids f ≡ good bytes → 0 < length ids
 unfolding encode
-some-ids [] f bytes e = no-result e
+some-ids [] f bytes e = no-refusal e
 some-ids (id ∷ ids) f bytes e = omega arith

@@ -2,7 +2,6 @@
 -- exactly on refusal.
 -- Assumes nothing.
 use mathlib.Core.Path.{_≡_, refl, sym, ap, _∙_}
-use mathlib.Core.Bool.{Bool, true, false}
 use mathlib.Core.List.{List, [], _∷_}
 use mathlib.Core.Logic.{_↔_}
 use Prim.Native.Nat.{ℕ, _+_, _-_, _≤_, _<_}
@@ -16,7 +15,6 @@ use Rattle.wire.proofs.Booleans.{either}
 use Rattle.algorithms.specs.Sizes.{publicKeyLength}
 use Rattle.algorithms.proofs.Stated.{size-bounds}
 use Rattle.keylist.specs.declared.KeyPlace.{KeyPlace}
-use Rattle.keylist.specs.declared.Place.{Place}
 use Rattle.keylist.specs.Layout.{Configuration, Outcome, good, bad, parse, configurationAt, keyIdAt, kemAt, keyStart, keyEnd, nextStart}
 use Rattle.keylist.specs.Answers.{keyPlaceIn, firstWithId, keyPart, placeAt, placeOf}
 use Rattle.keylist.specs.Stated.{EmptyOnRefusal}

@@ -3,7 +3,7 @@ pub mod LayoutLaws
 pub mod Parsing
 pub mod Walk
 pub mod Keys
-pub mod Words
+pub mod Offsets
 pub mod OneConfiguration
 pub mod RoundTrip
 pub mod FieldsWalk

@@ -12,18 +12,16 @@ use lib.Seq.{length-take-le, take-at, take-append-seam, drop-append-seam}
 use borrow.Author.Tests.{leb-true, le-leb, lt-leb, eqb-true, eq-eqb}
 use Rattle.wire.specs.Tests.{_and_}
 use Rattle.wire.specs.Bytes.{wordBytes, wordsBytes}
+use Rattle.wire.proofs.Words.{words-length}
 use Rattle.wire.specs.Search.{firstPlace, among}
 use Rattle.wire.proofs.Booleans.{and-left, and-right, true-or-false}
 use Rattle.algorithms.specs.Table.{table, rowOf}
 use Rattle.algorithms.specs.Sizes.{knownKem, publicKeyLength}
 use Rattle.algorithms.proofs.Stated.{size-bounds}
-use Rattle.keylist.specs.Layout.{Configuration, good, lengthAt, keyIdAt, kemAt, keyStart, keyEnd, pairBytesAt, pairsStart}
-use Rattle.keylist.specs.Layout.{nextStart, configurationAt, mostPairBytes, pairBytesHold, layoutHolds, parseFrom}
-use Rattle.keylist.specs.Writer.{Fields, firstKem, firstKeyLength, firstKey, firstPairCount, firstPairs, behindFirst}
-use Rattle.keylist.specs.Writer.{firstHolds, firstLength, firstBytes, encodeFrom}
+use Rattle.keylist.specs.Layout.{Configuration, good, lengthAt, keyIdAt, kemAt, keyStart, keyEnd, pairBytesAt, pairsStart, nextStart, configurationAt, mostPairBytes, pairBytesHold, layoutHolds, parseFrom}
+use Rattle.keylist.specs.Writer.{Fields, firstKem, firstKeyLength, firstKey, firstPairCount, firstPairs, behindFirst, firstHolds, firstLength, firstBytes, encodeFrom}
 use Rattle.keylist.specs.Stated.{AreBytes, pairNumbers, joined, idsOf, fieldsOf}
-use Rattle.keylist.proofs.Words.{words-length, behind, byte-there, word-there, word-first, pairs-there}
-use Rattle.keylist.proofs.Words.{pairs-length, byte-back, part-back, word-back, pairs-back}
+use Rattle.keylist.proofs.Offsets.{behind, byte-there, word-there, word-first, pairs-there, pairs-length, byte-back, part-back, word-back, pairs-back}
 
 -- what a conjunction of tests says, part by part
 pub both : {a b : Bool} {P Q : Type 0} → (a ≡ true → P) → (b ≡ true → Q) → (a and b) ≡ true → P × Q

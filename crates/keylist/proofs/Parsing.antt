@@ -1,23 +1,24 @@
 -- How reading a list goes on from an offset: at the end, at a bad configuration, at a good one; and the walk over a list that is
 -- known to be good.
 -- Assumes nothing.
-use mathlib.Core.Path.{_≡_, refl, sym, ap, _∙_}
+use mathlib.Core.Path.{_≡_, refl, ap}
 use mathlib.Core.Bool.{Bool, true, false, not}
 use mathlib.Core.List.{List, [], _∷_, _++_}
-use Prim.Native.Nat.{ℕ, zero, suc, _+_, _-_, _≤_, _<_}
-use native.Mathlib.Nat.{add-suc, suc-add}
-use native.Mathlib.Numerals.{add-one}
+use Prim.Native.Nat.{ℕ, zero, suc, _+_, _≤_, _<_}
 use native.Mathlib.Omega.{arith}
 use borrow.Author.Tests.{le-leb, lt-leb}
 use lib.ListN.{length}
-use Rattle.wire.specs.Tests.{pick, _and_}
+use Rattle.wire.specs.Tests.{_and_}
 use Rattle.wire.specs.Search.{among}
 use Rattle.wire.specs.Refusals.{badList}
-use Rattle.wire.proofs.Booleans.{either, and-left}
+use Rattle.wire.specs.declared.refusal.Refusal.{Refusal}
 use Rattle.keylist.specs.declared.Checked.{Checked}
 use Rattle.keylist.specs.Layout.{Configuration, Outcome, good, bad, parse, parseFrom, followedBy, configurationAt, layoutHolds, keyIdAt, nextStart, mostConfigurations}
 use Rattle.keylist.specs.Answers.{checked}
-use Rattle.keylist.proofs.LayoutLaws.{Holds, holds}
+
+-- a refusal is no result
+pub no-refusal : {A P : Type 0} {r : Refusal} {a : A} → bad r ≡ good a → P
+no-refusal e = absurd (let z : _≡_ {A = ℕ} 0 1 = cc in omega arith)
 
 -- the test of one configuration
 abbrev pub goodAt : List ℕ → List ℕ → ℕ → Bool

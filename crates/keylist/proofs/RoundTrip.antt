@@ -7,22 +7,18 @@ use Prim.Native.Nat.{ℕ, zero, suc, _+_, _≤_}
 use native.Mathlib.Omega.{arith}
 use lib.Dec.{eqb, leb}
 use lib.ListN.{length, drop, length-drop, drop-of-length-le}
-use borrow.Author.Tests.{leb-true, le-leb, eqb-true}
+use borrow.Author.Tests.{leb-true, eqb-true}
 use Rattle.wire.specs.Tests.{pick, _and_}
 use Rattle.wire.specs.Search.{among}
 use Rattle.wire.specs.Refusals.{badList}
-use Rattle.wire.specs.declared.refusal.Refusal.{Refusal}
 use Rattle.wire.proofs.Booleans.{either, and-left, and-right}
-use Rattle.keylist.specs.Layout.{Configuration, Outcome, good, bad, keyIdAt, nextStart, configurationAt, layoutHolds}
-use Rattle.keylist.specs.Layout.{followedBy, parseFrom, parse, mostConfigurations}
+use Rattle.keylist.specs.Layout.{Configuration, Outcome, good, bad, keyIdAt, nextStart, configurationAt, layoutHolds, followedBy, parseFrom, parse, mostConfigurations}
 use Rattle.keylist.specs.Writer.{Fields, noneLeft, behindFirst, firstHolds, firstLength, firstBytes, inFrontOf, encodeFrom, encode}
 use Rattle.keylist.specs.Stated.{AreBytes, idsOf, fieldsOf, joined, ReadAfterWrite, WriteAfterRead}
+use Rattle.keylist.proofs.Parsing.{no-refusal, parse-end}
 use Rattle.keylist.proofs.OneConfiguration.{both, same-fields, ReadBack, first-says, first-laid, rest-read, read-first, layout-says, write-first}
 
 -- a result comes from no refusal, so the tests on its way held
-no-refusal : {A : Type 0} {r : Refusal} {a : A} {P : Type 0} → bad r ≡ good a → P
-no-refusal e = absurd (let z : _≡_ {A = ℕ} 0 1 = cc in omega arith)
-
 end-given : {A : Type 0} (test : Bool) (at : ℕ) {found : List A} → pick test (good []) (bad (badList at)) ≡ good found
     → (test ≡ true) × ([] ≡ found)
 end-given true at e = (refl, cc)
@@ -43,11 +39,6 @@ first-given true c (bad r) at e = no-refusal e
 first-given false c o at e = no-refusal e
 
 -- where nothing is left
-parse-end : (more : ℕ) (taken bytes : List ℕ) (at : ℕ) → length bytes ≤ at → parseFrom more taken bytes at ≡ good []
-unfolding parseFrom
-parse-end zero taken bytes at h = rw (le-leb (length bytes) at h)
-parse-end (suc more) taken bytes at h = rw (le-leb (length bytes) at h)
-
 empty : (numbers : List ℕ) → eqb (length numbers) 0 ≡ true → [] ≡ numbers
 empty [] e = refl
 empty (n ∷ numbers) e = absurd (omega (arith, eqb-true (length (n ∷ numbers)) 0 e))

@@ -1,16 +1,15 @@
 -- The walk over a list that is good: at each offset where a configuration starts, what is left of the configurations, and what is
 -- known of the next one.
 -- Assumes nothing.
-use mathlib.Core.Path.{_≡_, refl, sym, ap, _∙_}
-use mathlib.Core.Bool.{Bool, true, false, not}
+use mathlib.Core.Path.{_≡_, refl, sym, _∙_}
+use mathlib.Core.Bool.{true, not}
 use mathlib.Core.List.{List, [], _∷_, _++_}
-use Prim.Native.Nat.{ℕ, zero, suc, _+_, _-_, _≤_, _<_}
+use Prim.Native.Nat.{ℕ, zero, suc, _≤_, _<_}
 use mathlib.Core.Logic.{⊎-elim}
 use native.Mathlib.Nat.{eq-zero-or-pos}
 use native.Mathlib.Omega.{arith}
 use lib.ListN.{length, length-take, length-drop}
 use Rattle.wire.specs.Search.{among}
-use Rattle.wire.specs.Refusals.{badList}
 use Rattle.wire.specs.declared.refusal.Refusal.{Refusal}
 use Rattle.wire.proofs.Booleans.{either, and-left}
 use Rattle.algorithms.specs.Sizes.{publicKeyLength}
@@ -18,7 +17,7 @@ use Rattle.keylist.specs.declared.Checked.{Checked}
 use Rattle.keylist.specs.Layout.{Configuration, Outcome, good, bad, parse, parseFrom, followedBy, configurationAt, layoutHolds, keyIdAt, kemAt, nextStart, mostConfigurations}
 use Rattle.keylist.specs.Answers.{checked}
 use Rattle.keylist.proofs.LayoutLaws.{Holds, holds}
-use Rattle.keylist.proofs.Parsing.{goodAt, parse-end, parse-bad, parse-too-many, parse-more, parse-some, parse-none}
+use Rattle.keylist.proofs.Parsing.{goodAt, parse-end, parse-bad, parse-too-many, parse-more, parse-some, parse-none, no-refusal}
 
 -- from an offset on the list is good, and these configurations are left
 pub record GoodFrom (bytes : List ℕ) (at : ℕ) : Type 0 where
@@ -33,14 +32,11 @@ pub record GoodNext (bytes : List ℕ) (at : ℕ) (rest : List Configuration) : 
   pub first : rest ≡ configurationAt bytes at ∷ next .rest
   pub holding : Holds bytes at
 
-never : (cs : List Configuration) (r : Refusal) {A : Type 0} → bad r ≡ good cs → A
-never cs r e = absurd (let z : _≡_ {A = ℕ} 0 1 = cc in omega arith)
-
 -- a good outcome behind a first configuration is that configuration and a good outcome
 split : (c : Configuration) (p : Outcome (List Configuration)) (rest : List Configuration) → followedBy c p ≡ good rest
     → (cs : List Configuration) × (p ≡ good cs) × (rest ≡ c ∷ cs)
 split c (good cs) rest e = (cs, refl, cc)
-split c (bad r) rest e = never rest r e
+split c (bad r) rest e = no-refusal e
 
 module _ (bytes : List ℕ) where
   pub walk-end : (at : ℕ) (w : GoodFrom bytes at) → length bytes ≤ at → w .rest ≡ []
@@ -51,11 +47,11 @@ module _ (bytes : List ℕ) where
   good-here : (at : ℕ) (w : GoodFrom bytes at) → at < length bytes → goodAt (w .taken) bytes at ≡ true
   good-here at w h =
       either (goodAt (w .taken) bytes at) (λ e. e)
-      (λ e. never (w .rest) (badList at) (sym (parse-bad (w .more) (w .taken) bytes at h e) ∙ w .parsed))
+      (λ e. no-refusal (sym (parse-bad (w .more) (w .taken) bytes at h e) ∙ w .parsed))
 
   step : (at more : ℕ) (taken : List ℕ) (rest : List Configuration) → parseFrom more taken bytes at ≡ good rest → at < length bytes
       → goodAt taken bytes at ≡ true → GoodNext bytes at rest
-  step at zero taken rest e h g = never rest (badList at) (sym (parse-too-many zero taken bytes at h refl) ∙ e)
+  step at zero taken rest e h g = no-refusal (sym (parse-too-many zero taken bytes at h refl) ∙ e)
   step at (suc more) taken rest e h g =
       let behind = parseFrom more (taken ++ keyIdAt bytes at ∷ []) bytes (nextStart bytes at) in
       let s = split (configurationAt bytes at) behind rest (sym (parse-more more taken bytes at h g) ∙ e) in
@@ -70,7 +66,7 @@ module _ (bytes : List ℕ) where
 
   pub not-empty : (cs : List Configuration) → parse bytes ≡ good cs → 0 < length bytes
   not-empty cs e =
-      ⊎-elim (λ z. never cs (badList 0) (sym (parse-none bytes z) ∙ e)) (λ p. p) (eq-zero-or-pos (length bytes))
+      ⊎-elim (λ z. no-refusal (sym (parse-none bytes z) ∙ e)) (λ p. p) (eq-zero-or-pos (length bytes))
 
   -- the walk starts at 0, over all configurations
   unfoldable pub walk-start : (cs : List Configuration) → parse bytes ≡ good cs → GoodFrom bytes 0

@@ -1,14 +1,14 @@
 -- The list writer's second walk, over fields that are known to make a list that fits: what stands in the buffer at each index.
 -- Assumes nothing.
 use mathlib.Core.Path.{_≡_, refl, sym, ap, _∙_}
-use mathlib.Core.Bool.{Bool, true, false, not}
-use mathlib.Core.List.{List, [], _∷_, _++_}
-use Prim.Native.Nat.{ℕ, _+_, _-_, _*_, _≤_, _<_}
+use mathlib.Core.Bool.{true, not}
+use mathlib.Core.List.{List, []}
+use Prim.Native.Nat.{ℕ, _+_, _-_, _≤_, _<_}
 use native.Mathlib.Omega.{arith}
 use borrow.Author.Tests.{le-leb, lt-leb}
 use lib.ListN.{length, getD, take, drop, length-drop, length-take, length-append}
 use lib.Seq.{take-all, drop-at, drop-drop, length-take-le}
-use Rattle.wire.specs.Bytes.{overwritten, withFront, part}
+use Rattle.wire.specs.Bytes.{overwritten, withFront}
 use Rattle.wire.specs.Search.{among}
 use Rattle.wire.proofs.Booleans.{and-left}
 use Rattle.wire.proofs.Writes.{front-length}
@@ -17,8 +17,7 @@ use Rattle.keylist.specs.Writer.{Fields, fieldsFrom, firstHolds, firstBy
 use Rattle.keylist.specs.declared.Written.{Written}
 use Rattle.wire.specs.declared.refusal.Refusal.{Refusal}
 use Rattle.wire.specs.Refusals.{refused}
-use Rattle.keylist.proofs.FieldsWalk.{Within, within-start, within-next, bounds-from, kem-from, key-length-from, pair-count-from}
-use Rattle.keylist.proofs.FieldsWalk.{encodeAt, MoreGood, more-good, end-good, at-size, written-more, encode-some, some-ids}
+use Rattle.keylist.proofs.FieldsWalk.{Within, within-start, within-next, bounds-from, kem-from, key-length-from, pair-count-from, encodeAt, MoreGood, more-good, end-good, at-size, written-more, encode-some, some-ids}
 
 pub record Writing (ids : List ℕ) (f : Fields) (start buffer : List ℕ) (i at k p : ℕ) : Type 0 where
   pub within : Within ids f i at k p

@@ -1,14 +1,12 @@
 -- What check and the key reader answer (01, "Key reader: 15, 4"), as the list's configurations say.
 use Prim.Native.Nat.{ℕ, _+_, _-_}
 use mathlib.Core.Path.{_≡_}
-use mathlib.Core.Bool.{Bool, true, false}
 use mathlib.Core.List.{List, [], _∷_}
 use lib.Dec.{eqb, ltb}
 use lib.ListN.{length}
 use Rattle.wire.specs.Tests.{pick}
 use Rattle.wire.specs.Bytes.{part}
 use Rattle.wire.specs.Refusals.{refused}
-use Rattle.wire.specs.declared.refusal.Refusal.{Refusal}
 use Rattle.keylist.specs.Layout.{Configuration, Outcome, good, bad, keyStart, keyEnd, keyIdAt, kemAt, nextStart, parse}
 use Rattle.keylist.specs.declared.Place.{Place}
 use Rattle.keylist.specs.declared.Checked.{Checked}

@@ -1,12 +1,12 @@
 -- What holds of reading and writing together, and when the key reader's part is empty.
-use Prim.Native.Nat.{ℕ, _+_, _*_, _<_}
+use Prim.Native.Nat.{ℕ, _<_}
 use mathlib.Core.Path.{_≡_}
 use mathlib.Core.Logic.{_↔_}
 use mathlib.Core.List.{List, [], _∷_, _++_, map}
 use lib.ListN.{length, getD}
 use Rattle.wire.specs.declared.refusal.Refusal.{Refusal}
 use Rattle.keylist.specs.declared.KeyPlace.{KeyPlace}
-use Rattle.keylist.specs.Layout.{Pair, Configuration, Outcome, good, bad, parse}
+use Rattle.keylist.specs.Layout.{Pair, Configuration, good, parse}
 use Rattle.keylist.specs.Answers.{keyPlaceIn, keyPart}
 use Rattle.keylist.specs.Writer.{Fields, encode}
 

@@ -2,15 +2,14 @@
 -- public key lengths, the key bytes of all, how many pair numbers each has, and the pair numbers of all, KDF and AEAD by turns.
 use Prim.Native.Nat.{ℕ, zero, suc, _+_, _*_, _≤_}
 use mathlib.Core.Path.{_≡_}
-use mathlib.Core.Bool.{Bool, true, false, not}
+use mathlib.Core.Bool.{Bool, not}
 use mathlib.Core.List.{List, [], _∷_, _++_}
-use lib.Dec.{eqb, leb, ltb}
+use lib.Dec.{eqb, leb}
 use lib.ListN.{length, getD, take, drop}
 use Rattle.wire.specs.Tests.{pick, _and_}
 use Rattle.wire.specs.Bytes.{wordBytes, wordsBytes, withFront}
 use Rattle.wire.specs.Search.{among}
 use Rattle.wire.specs.Refusals.{badList, refused}
-use Rattle.wire.specs.declared.refusal.Refusal.{Refusal}
 use Rattle.algorithms.specs.Sizes.{knownKem, publicKeyLength}
 use Rattle.keylist.specs.Layout.{Outcome, good, bad, mostConfigurations, pairBytesHold}
 use Rattle.keylist.specs.declared.Written.{Written}

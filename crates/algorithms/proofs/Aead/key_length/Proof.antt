@@ -1,31 +1,20 @@
+-- `algorithms::Aead::key_length` meets its contract.
+-- Assumes nothing.
 use Rattle.algorithms.specs.Sizes.{knownAead, keyLength}
-use mathlib.Core.Path.{_≡_, refl, sym, ap, _∙_}
-use Prim.Native.Nat.{ℕ, suc, _+_, _*_, _-_, _≤_, _<_}
-use native.Mathlib.Omega.{arith}
-use borrow.Author.Tests.{eq-eqb, ne-eqb, lt-ltb, le-ltb, le-leb, lt-leb}
-use mathlib.Core.Logic.{⊎-elim}
-use lib.ListN.{length, getD, take, drop, set}
+use mathlib.Core.Path.{_∙_}
 use borrow.Author.Needs.{needs}
 use Rattle.algorithms.proofs.Aead.key_length.Statement.{statement}
 use Rattle.algorithms.proofs.Aead.key_length.Tie as tie
-use Rattle.algorithms.proofs.Aead.key_length.Reads as reads
-use Rattle.algorithms.proofs.Aead.key_length.Lts as lts
-use Rattle.algorithms.proofs.Row.size.Reads as size-reads
-use Rattle.algorithms.proofs.row_of.Reads as row-of-reads
 
--- src/lib.rt:225:13
 row-of-requires : tie.Need-row-of-requires
 row-of-requires c κs = search needs
 
--- src/lib.rt:226:18
 cast-size : tie.Need-cast-size
 cast-size c = search needs
 
--- src/lib.rt:226:9
 size-requires : tie.Need-size-requires
 size-requires c κs = search needs
 
--- src/lib.rt:222:5
 returns : tie.Need-returns
 unfolding knownAead keyLength
 returns c = c .size .ensures ∙ rw (c .before .before .row-of .ensures)

@@ -1,36 +1,23 @@
+-- `algorithms::Aead::response_nonce_length` meets its contract.
+-- Assumes nothing.
 use Rattle.algorithms.specs.Sizes.{knownAead, keyLength}
-use mathlib.Core.Path.{_≡_, refl, sym, ap, _∙_}
-use Prim.Native.Nat.{ℕ, suc, _+_, _*_, _-_, _≤_, _<_}
-use native.Mathlib.Omega.{arith}
-use borrow.Author.Tests.{eq-eqb, ne-eqb, lt-ltb, le-ltb, le-leb, lt-leb}
-use mathlib.Core.Logic.{⊎-elim}
-use lib.ListN.{length, getD, take, drop, set}
+use mathlib.Core.Path.{_∙_}
 use borrow.Author.Needs.{needs}
 use Rattle.algorithms.proofs.Aead.response_nonce_length.Statement.{statement}
 use Rattle.algorithms.proofs.Aead.response_nonce_length.Tie as tie
-use Rattle.algorithms.proofs.Aead.response_nonce_length.Reads as reads
-use Rattle.algorithms.proofs.Aead.response_nonce_length.Lts as lts
-use Rattle.algorithms.proofs.Row.size.Reads as size-reads
-use Rattle.algorithms.proofs.larger.Reads as larger-reads
-use Rattle.algorithms.proofs.row_of.Reads as row-of-reads
 
--- src/lib.rt:233:13
 row-of-requires : tie.Need-row-of-requires
 row-of-requires c κs = search needs
 
--- src/lib.rt:234:38
 cast-larger : tie.Need-cast-larger
 cast-larger c = search needs
 
--- src/lib.rt:234:18
 larger-requires : tie.Need-larger-requires
 larger-requires c κs = search needs
 
--- src/lib.rt:234:9
 size-requires : tie.Need-size-requires
 size-requires c κs = search needs
 
--- src/lib.rt:230:5
 returns : tie.Need-returns
 unfolding knownAead keyLength
 returns c = c .size .ensures ∙ rw (c .before .larger .ensures, c .before .before .before .row-of .ensures)

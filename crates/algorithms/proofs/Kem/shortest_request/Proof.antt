@@ -1,39 +1,26 @@
+-- `algorithms::Kem::shortest_request` meets its contract.
+-- Assumes nothing.
 use Rattle.algorithms.specs.Sizes.{knownKem, encLength}
-use mathlib.Core.Path.{_≡_, refl, sym, ap, _∙_}
-use Prim.Native.Nat.{ℕ, suc, _+_, _*_, _-_, _≤_, _<_}
-use native.Mathlib.Omega.{arith}
-use borrow.Author.Tests.{eq-eqb, ne-eqb, lt-ltb, le-ltb, le-leb, lt-leb}
-use mathlib.Core.Logic.{⊎-elim}
-use lib.ListN.{length, getD, take, drop, set}
+use mathlib.Core.Path.{_∙_}
 use borrow.Author.Needs.{needs}
 use Rattle.algorithms.proofs.Kem.shortest_request.Statement.{statement}
 use Rattle.algorithms.proofs.Kem.shortest_request.Tie as tie
-use Rattle.algorithms.proofs.Kem.shortest_request.Reads as reads
-use Rattle.algorithms.proofs.Kem.shortest_request.Lts as lts
-use Rattle.algorithms.proofs.Row.size.Reads as size-reads
-use Rattle.algorithms.proofs.row_of.Reads as row-of-reads
 
--- src/lib.rt:201:13
 row-of-requires : tie.Need-row-of-requires
 row-of-requires c κs = search needs
 
--- src/lib.rt:202:31
 cast-size : tie.Need-cast-size
 cast-size c = search needs
 
--- src/lib.rt:202:18
 add-size : tie.Need-add-size
 add-size c = search needs
 
--- src/lib.rt:202:18
 add-size-2 : tie.Need-add-size-2
 add-size-2 c = search needs
 
--- src/lib.rt:202:9
 size-requires : tie.Need-size-requires
 size-requires c κs = search needs
 
--- src/lib.rt:198:5
 returns : tie.Need-returns
 unfolding knownKem encLength
 returns c = c .size .ensures ∙ rw (c .before .before .row-of .ensures)

@@ -1,32 +1,24 @@
-use Rattle.keylist.proofs.Parsing.{parse-none}
-use Rattle.keylist.specs.Layout.{layoutHolds, Outcome, Configuration}
+-- `keylist::check::check` meets its contract.
+-- Assumes nothing.
+use Rattle.keylist.proofs.Parsing.{parse-none, parse-end, parse-bad, parse-too-many, parse-more, parse-some, counted, counted-none, counted-one, goodAt}
+use Rattle.keylist.specs.Layout.{layoutHolds, parse, parseFrom, configurationAt, keyIdAt, nextStart}
 use Rattle.keylist.specs.declared.Checked.{Checked}
-use mathlib.Core.Bool.{Bool, true, false, not}
+use mathlib.Core.Bool.{true, not}
 use Rattle.wire.specs.Search.{among}
 use Rattle.wire.proofs.Booleans.{and-left}
 use native.Mathlib.Numerals.{add-one}
-use mathlib.Core.List.{List, [], _∷_, _++_}
-use lib.ListN.{length-take, length-set}
+use mathlib.Core.List.{[], _∷_, _++_}
+use lib.ListN.{length-take, length-set, length, take, set}
 use lib.Seq.{take-suc-set}
-use Rattle.keylist.proofs.Parsing.{parse-end, parse-bad, parse-too-many, parse-more, parse-some, counted, counted-none, counted-one, goodAt}
 use Rattle.keylist.proofs.LayoutLaws.{holds}
 use Rattle.keylist.specs.Answers.{checked}
-use Rattle.keylist.specs.Layout.{parse, parseFrom, configurationAt, keyIdAt, nextStart, good, bad}
 use mathlib.Core.Path.{_≡_, refl, sym, ap, _∙_}
-use Prim.Native.Nat.{ℕ, suc, _+_, _*_, _-_, _≤_, _<_}
+use Prim.Native.Nat.{suc, _+_, _-_, _≤_}
 use native.Mathlib.Omega.{arith}
 use borrow.Author.Needs.{needs}
-use borrow.Author.Tests.{eq-eqb, ne-eqb, lt-ltb, le-ltb, le-leb, lt-leb, not-true, not-false}
-use mathlib.Core.Logic.{⊎-elim}
-use lib.ListN.{length, getD, take, drop, set}
+use borrow.Author.Tests.{not-true, not-false}
 use Rattle.keylist.proofs.check.check.Statement.{statement}
 use Rattle.keylist.proofs.check.check.Tie as tie
-use Rattle.keylist.proofs.check.check.Reads as reads
-use Rattle.keylist.proofs.check.check.Lts as lts
-use Rattle.keylist.proofs.check.bad_list.Reads as bad-list-reads
-use Rattle.keylist.proofs.check.is_good.Reads as is-good-reads
-use Rattle.wire.proofs.bytes.byte_at.Reads as byte-at-reads
-use Rattle.wire.proofs.bytes.word_at.Reads as word-at-reads
 
 abbrev Inv-loop : tie.InvT-loop
 Inv-loop list taken₀ count₀ at₀ taken count at =
@@ -36,25 +28,20 @@ Inv-loop list taken₀ count₀ at₀ taken count at =
 abbrev μ-loop : tie.MeasureT-loop
 μ-loop list taken₀ count₀ at₀ taken count at = length list - at
 
--- src/check.rt:83:33
 bad-list-requires : tie.Need-bad-list-requires Inv-loop μ-loop
 bad-list-requires c κs = search needs
 
--- src/check.rt:83:9
 returns : tie.Need-returns Inv-loop μ-loop
 returns c = ap Checked.Refused (c .bad-list .ensures) ∙ sym (ap checked (parse-none (c .before .before .before .args .list .now) (c .before .if1 .taken)))
 
--- src/check.rt:88:5
 loop-holds : tie.Need-loop-holds Inv-loop μ-loop
 loop-holds c =
     let list = c .before .before .args .list .now in
     (omega arith, omega arith, refl, counted-none (parse list) ∙ ap (counted 0) (parse-some list (omega arith)))
 
--- src/check.rt:90:37
 bad-list-requires-2 : tie.Need-bad-list-requires-2 Inv-loop μ-loop
 bad-list-requires-2 c κs = search needs
 
--- src/check.rt:90:13
 returns-2 : tie.Need-returns-2 Inv-loop μ-loop
 unfolding counted
 returns-2 c =
@@ -63,23 +50,18 @@ returns-2 c =
     ap Checked.Refused (c .bad-list2 .ensures)
     ∙ sym (l .inv .3 ∙ ap (counted (l .count)) (parse-too-many (16 - l .count) (take (l .count) (l .taken)) list (l .at) (omega arith) (omega arith)))
 
--- src/check.rt:92:31
 array-share-prefix-taken : tie.Need-array-share-prefix-taken Inv-loop μ-loop
 array-share-prefix-taken c = search needs
 
--- src/check.rt:92:31
 slice-aggregate-is-good : tie.Need-slice-aggregate-is-good Inv-loop μ-loop
 slice-aggregate-is-good c = simp length-take (omega arith)
 
--- src/check.rt:92:13
 is-good-requires : tie.Need-is-good-requires Inv-loop μ-loop
 is-good-requires c κs = search needs
 
--- src/check.rt:93:37
 bad-list-requires-3 : tie.Need-bad-list-requires-3 Inv-loop μ-loop
 bad-list-requires-3 c κs = search needs
 
--- src/check.rt:93:13
 returns-3 : tie.Need-returns-3 Inv-loop μ-loop
 unfolding counted
 returns-3 c =
@@ -89,43 +71,33 @@ returns-3 c =
     ∙ sym (l .inv .3 ∙ ap (counted (l .count)) (parse-bad (16 - l .count) (take (l .count) (l .taken)) list (l .at) (omega arith)
     (sym (c .before .before .is-good .ensures) ∙ not-true (c .before .before .is-good .result) (c .before .if3 .taken))))
 
--- src/check.rt:95:38
 add-byte-at : tie.Need-add-byte-at Inv-loop μ-loop
 add-byte-at c = search needs
 
--- src/check.rt:95:24
 byte-at-requires : tie.Need-byte-at-requires Inv-loop μ-loop
 byte-at-requires c κs = search needs
 
--- src/check.rt:95:9
 array-write-taken : tie.Need-array-write-taken Inv-loop μ-loop
 array-write-taken c = search needs
 
--- src/check.rt:96:9
 add-count : tie.Need-add-count Inv-loop μ-loop
 add-count c = search needs
 
--- src/check.rt:97:14
 add-at : tie.Need-add-at Inv-loop μ-loop
 add-at c = search needs
 
--- src/check.rt:97:24
 word-at-requires : tie.Need-word-at-requires Inv-loop μ-loop
 word-at-requires c κs = search needs
 
--- src/check.rt:97:24
 cast-at : tie.Need-cast-at Inv-loop μ-loop
 cast-at c = search needs
 
--- src/check.rt:97:14
 add-at-2 : tie.Need-add-at-2 Inv-loop μ-loop
 add-at-2 c = search needs
 
--- src/check.rt:88:5
 loop-less : tie.Need-loop-less Inv-loop μ-loop
 loop-less c = search needs
 
--- src/check.rt:88:5
 loop-again : tie.Need-loop-again Inv-loop μ-loop
 loop-again c =
     let l = c .before .before .before .before .before .before .before .loop in
@@ -146,7 +118,6 @@ loop-again c =
           ∙ rw (ids, next),
     )
 
--- src/check.rt:79:1
 returns-4 : tie.Need-returns-4 Inv-loop μ-loop
 unfolding counted
 returns-4 c =

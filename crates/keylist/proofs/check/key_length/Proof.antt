@@ -1,39 +1,29 @@
+-- `keylist::check::key_length` meets its contract.
+-- Assumes nothing.
 use Rattle.algorithms.specs.Sizes.{knownKem, publicKeyLength}
 use Rattle.algorithms.proofs.Stated.{size-bounds}
 use Rattle.algorithms.proofs.Answers.{known, unknown}
-use mathlib.Core.Path.{_≡_, refl, sym, ap, _∙_}
-use Prim.Native.Nat.{ℕ, suc, _+_, _*_, _-_, _≤_, _<_}
+use mathlib.Core.Path.{sym, _∙_}
 use native.Mathlib.Omega.{arith}
-use borrow.Author.Tests.{eq-eqb, ne-eqb, lt-ltb, le-ltb, le-leb, lt-leb}
-use mathlib.Core.Logic.{⊎-elim}
-use lib.ListN.{length, getD, take, drop, set}
 use borrow.Author.Needs.{needs}
 use Rattle.keylist.proofs.check.key_length.Statement.{statement}
 use Rattle.keylist.proofs.check.key_length.Tie as tie
-use Rattle.keylist.proofs.check.key_length.Reads as reads
-use Rattle.keylist.proofs.check.key_length.Lts as lts
-use Rattle.algorithms.proofs.Kem.public_key_length.Reads as public-key-length-reads
 
--- src/check.rt:130:11
 public-key-length-requires : tie.Need-public-key-length-requires
 public-key-length-requires c κs = search needs
 
--- src/check.rt:131:21
 enum-known-key : tie.Need-enum-known-key
 enum-known-key c = search needs
 
--- src/check.rt:132:26
 enum-told : tie.Need-enum-told
 enum-told c = search needs
 
--- src/check.rt:126:1
 returns : tie.Need-returns
 returns c =
     let kem = c .before .before .before .before .args .kem in
     let is = known (knownKem kem) (publicKeyLength kem) (c .before .key .given .0 .0) (sym (c .before .before .before .public-key-length .ensures) ∙ c .before .key .given .1) in
     (sym (is .1), omega (arith, size-bounds .keyBound kem))
 
--- src/check.rt:126:1
 returns-2 : tie.Need-returns-2
 returns-2 c =
     let kem = c .before .before .before .args .kem in

@@ -1,43 +1,30 @@
+-- `keylist::key::find` meets its contract.
+-- Assumes nothing.
 use Rattle.keylist.proofs.Walk.{checked-good, checked-bad}
 use Rattle.keylist.specs.Answers.{keyPlaceIn}
 use Rattle.keylist.specs.Layout.{parse}
-use mathlib.Core.Path.{_≡_, refl, sym, ap, _∙_}
-use Prim.Native.Nat.{ℕ, suc, _+_, _*_, _-_, _≤_, _<_}
-use native.Mathlib.Omega.{arith}
-use borrow.Author.Tests.{eq-eqb, ne-eqb, lt-ltb, le-ltb, le-leb, lt-leb}
-use mathlib.Core.Logic.{⊎-elim}
-use lib.ListN.{length, getD, take, drop, set}
+use mathlib.Core.Path.{sym, ap, _∙_}
 use borrow.Author.Needs.{needs}
 use Rattle.keylist.proofs.key.find.Statement.{statement}
 use Rattle.keylist.proofs.key.find.Tie as tie
-use Rattle.keylist.proofs.key.find.Reads as reads
-use Rattle.keylist.proofs.key.find.Lts as lts
-use Rattle.keylist.proofs.check.check.Reads as check-reads
-use Rattle.keylist.proofs.key.find_in_good.Reads as find-in-good-reads
 
--- src/key.rt:16:11
 check-requires : tie.Need-check-requires
 check-requires c κs = search needs
 
--- src/key.rt:17:29
 enum-told : tie.Need-enum-told
 enum-told c = search needs
 
--- src/key.rt:17:29
 find-in-good-requires : tie.Need-find-in-good-requires
 find-in-good-requires c κs =
     let list = c .before .before .before .before .args .list .now in
     checked-good (parse list) (c .enum-told .given .0 .0) (sym (c .before .before .check .ensures) ∙ c .enum-told .given .1)
 
--- src/key.rt:18:26
 enum-known-refusal : tie.Need-enum-known-refusal
 enum-known-refusal c = search needs
 
--- src/key.rt:13:1
 returns : tie.Need-returns
 returns c = c .find-in-good .ensures
 
--- src/key.rt:13:1
 returns-2 : tie.Need-returns-2
 returns-2 c =
     let a = c .before .before .before .before .before .args in

@@ -1,21 +1,17 @@
+-- `keylist::key::find_in_good` meets its contract.
+-- Assumes nothing.
 use Rattle.keylist.proofs.Keys.{place-inside, found-here, found-later}
-use Rattle.keylist.proofs.Walk.{GoodFrom, GoodNext, walk-start, walk-next, walk-end}
-use Rattle.keylist.specs.declared.KeyPlace.{KeyPlace}
+use Rattle.keylist.proofs.Walk.{GoodFrom, walk-start, walk-next, walk-end}
 use Rattle.keylist.specs.declared.Place.{Place}
 use Rattle.keylist.specs.Answers.{keyPlaceIn, firstWithId, placeOf}
-use Rattle.keylist.specs.Layout.{parse, nextStart, keyIdAt, keyEnd, keyStart}
-use mathlib.Core.Path.{_≡_, refl, sym, ap, _∙_}
-use Prim.Native.Nat.{ℕ, suc, _+_, _*_, _-_, _≤_, _<_}
+use Rattle.keylist.specs.Layout.{parse, nextStart}
+use mathlib.Core.Path.{_≡_, sym, ap, _∙_}
+use Prim.Native.Nat.{_-_, _≤_}
 use native.Mathlib.Omega.{arith}
 use borrow.Author.Needs.{needs}
-use borrow.Author.Tests.{eq-eqb, ne-eqb, lt-ltb, le-ltb, le-leb, lt-leb}
-use mathlib.Core.Logic.{⊎-elim}
-use lib.ListN.{length, getD, take, drop, set}
+use lib.ListN.{length}
 use Rattle.keylist.proofs.key.find_in_good.Statement.{statement}
 use Rattle.keylist.proofs.key.find_in_good.Tie as tie
-use Rattle.keylist.proofs.key.find_in_good.Reads as reads
-use Rattle.keylist.proofs.key.find_in_good.Lts as lts
-use Rattle.keylist.proofs.check.place_at.Reads as place-at-reads
 
 abbrev Inv-loop : tie.InvT-loop
 Inv-loop list id at₀ at =
@@ -24,7 +20,6 @@ Inv-loop list id at₀ at =
 abbrev μ-loop : tie.MeasureT-loop
 μ-loop list id at₀ at = length list - at
 
--- src/key.rt:38:5
 loop-holds : tie.Need-loop-holds Inv-loop μ-loop
 unfolding walk-start
 loop-holds c =
@@ -32,11 +27,9 @@ loop-holds c =
     let is = c .before .pre in
     (walk-start (a .list .now) (is .0) (is .1), ap (keyPlaceIn (a .id)) (is .1), omega arith)
 
--- src/key.rt:39:13
 place-at-requires : tie.Need-place-at-requires Inv-loop μ-loop
 place-at-requires c κs = search needs
 
--- src/key.rt:41:13
 returns : tie.Need-returns Inv-loop μ-loop
 returns c =
     let a = c .before .before .before .before .before .before .args in
@@ -45,7 +38,6 @@ returns c =
     let place : c .before .before .place-at .result ≡ placeOf (a .list .now) (l .at) = c .before .before .place-at .ensures ∙ place-inside (a .list .now) (l .at) (omega arith) in
     rw place (sym (l .inv .1 ∙ found-here (a .list .now) (l .at) (a .id) n (sym (ap (λ (p : Place). p .«key_id») place) ∙ c .if1 .taken)))
 
--- src/key.rt:38:5
 loop-less : tie.Need-loop-less Inv-loop μ-loop
 loop-less c =
     let a = c .before .before .before .before .before .before .args in
@@ -54,7 +46,6 @@ loop-less c =
     let end : c .before .before .place-at .result .end ≡ nextStart (a .list .now) (l .at) = ap (λ (p : Place). p .end) place in
     omega arith
 
--- src/key.rt:38:5
 loop-again : tie.Need-loop-again Inv-loop μ-loop
 loop-again c =
     let a = c .before .before .before .before .before .before .args in
@@ -63,7 +54,6 @@ loop-again c =
     let place : c .before .before .place-at .result ≡ placeOf (a .list .now) (l .at) = c .before .before .place-at .ensures ∙ place-inside (a .list .now) (l .at) (omega arith) in
     rw place (n .next, l .inv .1 ∙ found-later (a .list .now) (l .at) (a .id) n (λ e. c .if1 .left (ap (λ (p : Place). p .«key_id») place ∙ e)), n .holding .whole)
 
--- src/key.rt:33:1
 returns-2 : tie.Need-returns-2 Inv-loop μ-loop
 returns-2 c =
     let a = c .before .before .before .args in

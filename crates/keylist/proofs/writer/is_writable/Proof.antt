@@ -1,43 +1,30 @@
+-- `keylist::writer::is_writable` meets its contract.
+-- Assumes nothing.
 use Rattle.keylist.proofs.FieldsWalk.{holds-from}
 use Rattle.keylist.specs.Writer.{fields, fieldsFrom, firstHolds}
 use lib.ListN.{length-take}
-use mathlib.Core.Path.{_≡_, refl, sym, ap, _∙_}
-use Prim.Native.Nat.{ℕ, suc, _+_, _*_, _-_, _≤_, _<_}
+use mathlib.Core.Path.{_≡_, sym, _∙_}
 use native.Mathlib.Omega.{arith}
-use borrow.Author.Tests.{eq-eqb, ne-eqb, lt-ltb, le-ltb, le-leb, lt-leb, not-true, not-false}
-use mathlib.Core.Logic.{⊎-elim}
-use lib.ListN.{length, getD, take, drop, set}
+use borrow.Author.Tests.{not-true, not-false}
 use borrow.Author.Needs.{needs}
 use Rattle.keylist.proofs.writer.is_writable.Statement.{statement}
 use Rattle.keylist.proofs.writer.is_writable.Tie as tie
-use Rattle.keylist.proofs.writer.is_writable.Reads as reads
-use Rattle.keylist.proofs.writer.is_writable.Lts as lts
-use Rattle.keylist.proofs.writer.fields_hold.Reads as fields-hold-reads
-use Rattle.keylist.proofs.writer.kem_at.Reads as kem-at-reads
-use Rattle.keylist.proofs.writer.number_at.Reads as number-at-reads
-use Rattle.wire.proofs.search.has_byte.Reads as has-byte-reads
 
--- src/writer.rt:146:9
 number-at-requires : tie.Need-number-at-requires
 number-at-requires c κs = search needs
 
--- src/writer.rt:147:21
 sub-keys-left : tie.Need-sub-keys-left
 sub-keys-left c = search needs
 
--- src/writer.rt:148:9
 number-at-requires-2 : tie.Need-number-at-requires-2
 number-at-requires-2 c κs = search needs
 
--- src/writer.rt:149:22
 sub-pairs-left : tie.Need-sub-pairs-left
 sub-pairs-left c = search needs
 
--- src/writer.rt:150:21
 kem-at-requires : tie.Need-kem-at-requires
 kem-at-requires c κs = search needs
 
--- src/writer.rt:150:9
 fields-hold-requires : tie.Need-fields-hold-requires
 fields-hold-requires c κs = search needs
 
@@ -55,23 +42,18 @@ tested c =
     ∙ rw (c .before .kem-at .ensures, c .before .before .before .number-at2 .ensures, c .before .before .before .before .before .number-at .ensures)
     (sym (holds-from f (a .cursor .index) (a .cursor .«key_at») (a .cursor .«pair_at»)))
 
--- src/writer.rt:151:9
 returns : tie.Need-returns
 returns c = rw (sym (tested (c .before)) ∙ not-true (c .before .fields-hold .result) (c .if1 .taken))
 
--- src/writer.rt:153:15
 slice-aggregate-has-byte : tie.Need-slice-aggregate-has-byte
 slice-aggregate-has-byte c = simp length-take (omega arith)
 
--- src/writer.rt:153:30
 shared-slice-read-has-byte : tie.Need-shared-slice-read-has-byte
 shared-slice-read-has-byte c = search needs
 
--- src/writer.rt:153:6
 has-byte-requires : tie.Need-has-byte-requires
 has-byte-requires c κs = search needs
 
--- src/writer.rt:133:1
 returns-2 : tie.Need-returns-2
 returns-2 c =
     let tests = c .before .before .before .before in

@@ -1,29 +1,19 @@
-use Rattle.keylist.proofs.FieldsWalk.{length-more}
+-- `keylist::writer::list_length` meets its contract.
+-- Assumes nothing.
+use Rattle.keylist.proofs.FieldsWalk.{length-more, encodeAt, writableAt, at-too-many, at-bad, at-end, at-left-over, lengthFrom, length-from-none, Within, within-start, within-next, bounds-from, encode-some, encode-none}
 use Rattle.wire.specs.Search.{among}
 use Rattle.wire.proofs.Booleans.{and-left}
-use mathlib.Core.Bool.{Bool, true, false, not}
-use Rattle.keylist.proofs.FieldsWalk.{encodeAt, writableAt, at-too-many, at-bad, at-end, at-left-over, at-more}
-use Rattle.keylist.proofs.FieldsWalk.{lengthFrom, length-from-none, length-from-more, first-size, behind-from, key-length-from, pair-count-from}
-use Rattle.keylist.proofs.FieldsWalk.{Within, within-start, within-next, bounds-from, encode-some, encode-none, encode-end, encode-too-many, encode-bad, encode-more}
-use Rattle.keylist.specs.Writer.{fields, fieldsFrom, firstHolds, lengthOf, firstLength, firstBytes, behindFirst, encode, encodeFrom, lengthWritten, noneLeft}
+use mathlib.Core.Bool.{true, false, not}
+use Rattle.keylist.specs.Writer.{fields, fieldsFrom, firstHolds, encode, lengthWritten, noneLeft}
 use Rattle.keylist.specs.declared.Written.{Written}
-use mathlib.Core.Path.{_≡_, refl, sym, ap, _∙_}
-use Prim.Native.Nat.{ℕ, suc, _+_, _*_, _-_, _≤_, _<_}
+use mathlib.Core.Path.{_≡_, sym, ap, _∙_}
+use Prim.Native.Nat.{_-_}
 use native.Mathlib.Omega.{arith}
 use borrow.Author.Needs.{needs}
-use borrow.Author.Tests.{eq-eqb, ne-eqb, lt-ltb, le-ltb, le-leb, lt-leb, not-true, not-false}
-use mathlib.Core.Logic.{⊎-elim}
-use lib.ListN.{length, getD, take, drop, set}
+use borrow.Author.Tests.{not-true, not-false}
+use lib.ListN.{length, getD, take}
 use Rattle.keylist.proofs.writer.list_length.Statement.{statement}
 use Rattle.keylist.proofs.writer.list_length.Tie as tie
-use Rattle.keylist.proofs.writer.list_length.Reads as reads
-use Rattle.keylist.proofs.writer.list_length.Lts as lts
-use Rattle.keylist.proofs.check.bad_list.Reads as bad-list-reads
-use Rattle.keylist.proofs.writer.Cursor.next.Reads as next-reads
-use Rattle.keylist.proofs.writer.Cursor.start.Reads as start-reads
-use Rattle.keylist.proofs.writer.is_writable.Reads as is-writable-reads
-use Rattle.keylist.proofs.writer.none_left.Reads as none-left-reads
-use Rattle.keylist.proofs.writer.number_at.Reads as number-at-reads
 
 abbrev Inv-loop : tie.InvT-loop
 Inv-loop ids kems key-lengths keys pair-counts pairs cursor₀ cursor =
@@ -35,18 +25,15 @@ Inv-loop ids kems key-lengths keys pair-counts pairs cursor₀ cursor =
 abbrev μ-loop : tie.MeasureT-loop
 μ-loop ids kems key-lengths keys pair-counts pairs cursor₀ cursor = length ids - cursor .index
 
--- src/writer.rt:194:33
 bad-list-requires : tie.Need-bad-list-requires Inv-loop μ-loop
 bad-list-requires c κs = search needs
 
--- src/writer.rt:194:9
 returns : tie.Need-returns Inv-loop μ-loop
 returns c =
     let a = c .before .before .before .before .before .before .before .before .args in
     let f = fields (a .kems .now) (a .key-lengths .now) (a .keys .now) (a .pair-counts .now) (a .pairs .now) in
     ap Written.Refused (c .bad-list .ensures) ∙ sym (ap lengthWritten (encode-none (a .ids .now) f (c .before .if1 .taken)))
 
--- src/writer.rt:196:9
 start-requires : tie.Need-start-requires Inv-loop μ-loop
 start-requires c κs = search needs
 
@@ -58,7 +45,6 @@ passed : (c : tie.After-is-writable Inv-loop μ-loop) → c .is-writable .result
     (at .index) (at .«key_at») (at .«pair_at») ≡ true
 passed c e = sym (c .is-writable .ensures) ∙ e
 
--- src/writer.rt:197:5
 loop-holds : tie.Need-loop-holds Inv-loop μ-loop
 loop-holds c =
     let a = c .before .before .before .before .before .before .before .before .args in
@@ -69,11 +55,9 @@ loop-holds c =
       length-from-none (encode (a .ids .now) f) ∙ ap (lengthFrom 0) (encode-some (a .ids .now) f (omega arith)),
     )
 
--- src/writer.rt:200:37
 bad-list-requires-2 : tie.Need-bad-list-requires-2 Inv-loop μ-loop
 bad-list-requires-2 c κs = search needs
 
--- src/writer.rt:200:13
 returns-2 : tie.Need-returns-2 Inv-loop μ-loop
 unfolding lengthFrom
 returns-2 c =
@@ -84,15 +68,12 @@ returns-2 c =
     ap Written.Refused (c .bad-list2 .ensures)
     ∙ sym (l .inv .1 ∙ ap (lengthFrom (at .at)) (at-too-many (a .ids .now) f (at .index) (at .at) (at .«key_at») (at .«pair_at») (omega arith) (omega arith)))
 
--- src/writer.rt:202:13
 is-writable-requires : tie.Need-is-writable-requires Inv-loop μ-loop
 is-writable-requires c κs = search needs
 
--- src/writer.rt:203:37
 bad-list-requires-3 : tie.Need-bad-list-requires-3 Inv-loop μ-loop
 bad-list-requires-3 c κs = search needs
 
--- src/writer.rt:203:13
 returns-3 : tie.Need-returns-3 Inv-loop μ-loop
 unfolding lengthFrom
 returns-3 c =
@@ -105,15 +86,12 @@ returns-3 c =
     ∙ sym (l .inv .1 ∙ ap (lengthFrom (at .at)) (at-bad (a .ids .now) f (at .index) (at .at) (at .«key_at») (at .«pair_at») (omega arith)
     (sym (writable .ensures) ∙ not-true (writable .result) (c .before .if4 .taken))))
 
--- src/writer.rt:205:30
 number-at-requires : tie.Need-number-at-requires Inv-loop μ-loop
 number-at-requires c κs = search needs
 
--- src/writer.rt:205:61
 number-at-requires-2 : tie.Need-number-at-requires-2 Inv-loop μ-loop
 number-at-requires-2 c κs = search needs
 
--- src/writer.rt:205:9
 next-requires : tie.Need-next-requires Inv-loop μ-loop
 next-requires c κs =
     let test = c .before .before .before in
@@ -127,11 +105,9 @@ next-requires c κs =
     let w = l .inv .0 in
     omega (arith, b .0, b .1 .0, w .limit, w .place, w .keyPlace, w .pairPlace, c .number-at2 .ensures, c .before .number-at .ensures)
 
--- src/writer.rt:197:5
 loop-less : tie.Need-loop-less Inv-loop μ-loop
 loop-less c = search needs
 
--- src/writer.rt:197:5
 loop-again : tie.Need-loop-again Inv-loop μ-loop
 loop-again c =
     let test = c .before .before .before .before in
@@ -147,15 +123,12 @@ loop-again c =
       l .inv .1 ∙ length-more (a .ids .now) f (at .index) (at .at) (at .«key_at») (at .«pair_at») (omega arith) (omega (arith, l .inv .0 .limit)) is,
     )
 
--- src/writer.rt:207:8
 none-left-requires : tie.Need-none-left-requires Inv-loop μ-loop
 none-left-requires c κs = search needs
 
--- src/writer.rt:210:26
 bad-list-requires-4 : tie.Need-bad-list-requires-4 Inv-loop μ-loop
 bad-list-requires-4 c κs = search needs
 
--- src/writer.rt:183:1
 returns-4 : tie.Need-returns-4 Inv-loop μ-loop
 unfolding lengthFrom
 returns-4 c =
@@ -168,7 +141,6 @@ returns-4 c =
     ∙ ap (lengthFrom (at .at)) (at-end (a .ids .now) f (at .index) (at .at) (at .«key_at») (at .«pair_at») (omega arith) none)
     ∙ ap Written.Length (omega arith))
 
--- src/writer.rt:183:1
 returns-5 : tie.Need-returns-5 Inv-loop μ-loop
 unfolding lengthFrom
 returns-5 c =

@@ -1,28 +1,20 @@
+-- `keylist::writer::write` meets its contract.
+-- Assumes nothing.
 use Rattle.keylist.proofs.Writing.{answer-refused, answer-no-room, answer-room}
 use Rattle.keylist.specs.Writer.{fields, encode}
-use mathlib.Core.Path.{_≡_, refl, sym, ap, _∙_}
-use Prim.Native.Nat.{ℕ, suc, _+_, _*_, _-_, _≤_, _<_}
+use mathlib.Core.Path.{sym, _∙_}
 use native.Mathlib.Omega.{arith}
-use borrow.Author.Tests.{eq-eqb, ne-eqb, lt-ltb, le-ltb, le-leb, lt-leb}
-use mathlib.Core.Logic.{⊎-elim}
-use lib.ListN.{length, getD, take, drop, set}
+use lib.ListN.{length}
 use borrow.Author.Needs.{needs}
 use Rattle.keylist.proofs.writer.write.Statement.{statement}
 use Rattle.keylist.proofs.writer.write.Tie as tie
-use Rattle.keylist.proofs.writer.write.Reads as reads
-use Rattle.keylist.proofs.writer.write.Lts as lts
-use Rattle.keylist.proofs.writer.list_length.Reads as list-length-reads
-use Rattle.keylist.proofs.writer.write_all.Reads as write-all-reads
 
--- src/writer.rt:259:11
 list-length-requires : tie.Need-list-length-requires
 list-length-requires c κs = search needs
 
--- src/writer.rt:260:25
 enum-known-length : tie.Need-enum-known-length
 enum-known-length c = search needs
 
--- src/writer.rt:262:17
 returns : tie.Need-returns
 returns c =
     let a = c .before .before .before .before .before .before .before .before .before .before .before .before .args in
@@ -31,7 +23,6 @@ returns c =
     answer-no-room (encode (a .ids .now) f) (a .buffer .now) (length .0 .0)
     (sym (c .before .before .before .before .list-length .ensures) ∙ length .1) (omega arith)
 
--- src/writer.rt:267:13
 write-all-requires : tie.Need-write-all-requires
 write-all-requires c κs =
     let told = c .before .before in
@@ -41,15 +32,12 @@ write-all-requires c κs =
     answer-room (encode (a .ids .now) f) (a .buffer .now) (length .0 .0)
     (sym (told .before .before .before .list-length .ensures) ∙ length .1) (omega arith) .1
 
--- src/writer.rt:270:26
 enum-known-refusal : tie.Need-enum-known-refusal
 enum-known-refusal c = search needs
 
--- src/writer.rt:247:1
 same-length : tie.Need-same-length
 same-length c = search needs
 
--- src/writer.rt:247:1
 returns-2 : tie.Need-returns-2
 returns-2 c =
     let told = c .before .before .before .before .before in
@@ -61,7 +49,6 @@ returns-2 c =
       c .before .before .write-all .ensures,
     )
 
--- src/writer.rt:247:1
 returns-3 : tie.Need-returns-3
 returns-3 c =
     let a = c .before .before .before .before .before .before .before .before .before .before .before .args in

@@ -1,23 +1,15 @@
+-- `keylist::writer::write_all` meets its contract.
+-- Assumes nothing.
 use Rattle.wire.specs.Bytes.{overwritten}
-use lib.ListN.{length-take, length-drop}
+use lib.ListN.{length-take, length-drop, length, getD}
 use Rattle.keylist.proofs.Writing.{Writing, writing-start, writing-more, writing-end, writing-bounds, writing-room, writing-limit, buffer-length, as-written}
 use Rattle.keylist.specs.Writer.{fields}
-use mathlib.Core.Path.{_≡_, refl, sym, ap, _∙_}
-use Prim.Native.Nat.{ℕ, suc, _+_, _*_, _-_, _≤_, _<_}
+use mathlib.Core.Path.{ap, _∙_}
+use Prim.Native.Nat.{ℕ, _+_, _*_, _-_, _≤_, _<_}
 use native.Mathlib.Omega.{arith}
 use borrow.Author.Needs.{needs}
-use borrow.Author.Tests.{eq-eqb, ne-eqb, lt-ltb, le-ltb, le-leb, lt-leb}
-use mathlib.Core.Logic.{⊎-elim}
-use lib.ListN.{length, getD, take, drop, set}
 use Rattle.keylist.proofs.writer.write_all.Statement.{statement}
 use Rattle.keylist.proofs.writer.write_all.Tie as tie
-use Rattle.keylist.proofs.writer.write_all.Reads as reads
-use Rattle.keylist.proofs.writer.write_all.Lts as lts
-use Rattle.keylist.proofs.writer.Cursor.next.Reads as next-reads
-use Rattle.keylist.proofs.writer.Cursor.start.Reads as start-reads
-use Rattle.keylist.proofs.writer.kem_at.Reads as kem-at-reads
-use Rattle.keylist.proofs.writer.number_at.Reads as number-at-reads
-use Rattle.keylist.proofs.writer.write_configuration.Reads as write-configuration-reads
 
 abbrev Inv-loop : tie.InvT-loop
 Inv-loop ids kems key-lengths keys pair-counts pairs buffer₀ cursor₀ buffer cursor =
@@ -63,11 +55,9 @@ numbers c =
       roomThere = omega (arith, w .room, buffer-length w);
     }
 
--- src/writer.rt:227:9
 start-requires : tie.Need-start-requires Inv-loop μ-loop
 start-requires c κs = search needs
 
--- src/writer.rt:228:5
 loop-holds : tie.Need-loop-holds Inv-loop μ-loop
 loop-holds c =
     let entry = c .before .before .before .before .before .before .before .before in
@@ -76,72 +66,55 @@ loop-holds c =
     let s = c .start .ensures in
     rw (s .0, s .1, s .2, s .3) (writing-start (a .ids .now) f (a .buffer .now) (entry .pre))
 
--- src/writer.rt:231:13
 number-at-requires : tie.Need-number-at-requires Inv-loop μ-loop
 number-at-requires c κs = search needs
 
--- src/writer.rt:233:13
 number-at-requires-2 : tie.Need-number-at-requires-2 Inv-loop μ-loop
 number-at-requires-2 c κs = search needs
 
--- src/writer.rt:237:13
 shared-slice-read-write-configuration :
     tie.Need-shared-slice-read-write-configuration Inv-loop μ-loop
 shared-slice-read-write-configuration c = search needs
 
--- src/writer.rt:238:13
 kem-at-requires : tie.Need-kem-at-requires Inv-loop μ-loop
 kem-at-requires c κs = search needs
 
--- src/writer.rt:239:27
 add-write-configuration : tie.Need-add-write-configuration Inv-loop μ-loop
 add-write-configuration c = omega (arith, numbers (c .before .before .before))
 
--- src/writer.rt:239:13
 sub-write-configuration : tie.Need-sub-write-configuration Inv-loop μ-loop
 sub-write-configuration c = search needs
 
--- src/writer.rt:239:13
 part-write-configuration-start : tie.Need-part-write-configuration-start Inv-loop μ-loop
 part-write-configuration-start c = search needs
 
--- src/writer.rt:239:13
 part-write-configuration-end : tie.Need-part-write-configuration-end Inv-loop μ-loop
 part-write-configuration-end c = omega (arith, numbers (c .before .before .before))
 
--- src/writer.rt:240:29
 add-write-configuration-2 : tie.Need-add-write-configuration-2 Inv-loop μ-loop
 add-write-configuration-2 c = omega (arith, numbers (c .before .before .before .before))
 
--- src/writer.rt:240:13
 mul-write-configuration : tie.Need-mul-write-configuration Inv-loop μ-loop
 mul-write-configuration c = search needs
 
--- src/writer.rt:240:13
 sub-write-configuration-2 : tie.Need-sub-write-configuration-2 Inv-loop μ-loop
 sub-write-configuration-2 c = search needs
 
--- src/writer.rt:240:13
 part-write-configuration-start-2 : tie.Need-part-write-configuration-start-2 Inv-loop μ-loop
 part-write-configuration-start-2 c = search needs
 
--- src/writer.rt:240:13
 part-write-configuration-end-2 : tie.Need-part-write-configuration-end-2 Inv-loop μ-loop
 part-write-configuration-end-2 c = omega (arith, numbers (c .before .before .before .before))
 
--- src/writer.rt:234:9
 write-configuration-requires : tie.Need-write-configuration-requires Inv-loop μ-loop
 write-configuration-requires c κs = simp (length-take, length-drop) (omega (arith, numbers (c .before .before .before .before .before)))
 
--- src/writer.rt:242:9
 next-requires : tie.Need-next-requires Inv-loop μ-loop
 next-requires c κs = omega (arith, numbers (c .before .before .before .before .before .before .before .before))
 
--- src/writer.rt:228:5
 loop-less : tie.Need-loop-less Inv-loop μ-loop
 loop-less c = omega (arith, c .next .ensures .0)
 
--- src/writer.rt:228:5
 loop-again : tie.Need-loop-again Inv-loop μ-loop
 loop-again c =
     let written = c .before .before .before in
@@ -160,11 +133,9 @@ loop-again c =
     rw (n .0, n .1, n .2, n .3, key .ensures, pairCount .ensures)
     (writing-more (l .inv) (omega arith) (written .write-configuration .last .0) (written .write-configuration .ensures ∙ ap (overwritten (l .buffer) (at .at)) same))
 
--- src/writer.rt:215:1
 same-length : tie.Need-same-length Inv-loop μ-loop
 same-length c = buffer-length (c .before .before .loop .inv)
 
--- src/writer.rt:215:1
 returns : tie.Need-returns Inv-loop μ-loop
 returns c = writing-end (c .before .before .loop .inv) (omega arith)
 

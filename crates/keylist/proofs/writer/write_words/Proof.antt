@@ -1,21 +1,17 @@
-use mathlib.Core.List.{List, [], _∷_, _++_}
+-- `keylist::writer::write_words` meets its contract.
+-- Assumes nothing.
+use mathlib.Core.List.{List}
 use lib.Seq.{take-all, length-take-le}
-use Rattle.wire.proofs.Writes.{overwritten-none}
-use Rattle.wire.proofs.Writes.{overwritten-more, overwritten-length}
+use Rattle.wire.proofs.Writes.{overwritten-none, overwritten-more}
 use Rattle.wire.proofs.Words.{words-length, words-one-more}
 use Rattle.wire.specs.Bytes.{overwritten, wordsBytes, wordBytes}
 use mathlib.Core.Path.{_≡_, refl, sym, ap, _∙_}
-use Prim.Native.Nat.{ℕ, suc, _+_, _*_, _-_, _≤_, _<_}
+use Prim.Native.Nat.{ℕ, _*_, _-_, _≤_}
 use native.Mathlib.Omega.{arith}
 use borrow.Author.Needs.{needs}
-use borrow.Author.Tests.{eq-eqb, ne-eqb, lt-ltb, le-ltb, le-leb, lt-leb}
-use mathlib.Core.Logic.{⊎-elim}
-use lib.ListN.{length, getD, take, drop, set}
+use lib.ListN.{length, getD, take}
 use Rattle.keylist.proofs.writer.write_words.Statement.{statement}
 use Rattle.keylist.proofs.writer.write_words.Tie as tie
-use Rattle.keylist.proofs.writer.write_words.Reads as reads
-use Rattle.keylist.proofs.writer.write_words.Lts as lts
-use Rattle.wire.proofs.bytes.overwrite.Reads as overwrite-reads
 
 abbrev Inv-loop : tie.InvT-loop
 Inv-loop buffer₀ at words done₀ buffer done =
@@ -24,53 +20,41 @@ Inv-loop buffer₀ at words done₀ buffer done =
 abbrev μ-loop : tie.MeasureT-loop
 μ-loop buffer₀ at words done₀ buffer done = length words - done
 
--- src/writer.rt:59:5
 loop-holds : tie.Need-loop-holds Inv-loop μ-loop
 loop-holds c =
     let a = c .before .before .args in
     (omega arith, refl, sym (overwritten-none (a .buffer .now) (a .at)))
 
--- src/writer.rt:60:20
 mul-word : tie.Need-mul-word Inv-loop μ-loop
 mul-word c = search needs
 
--- src/writer.rt:60:20
 shared-slice-read-word : tie.Need-shared-slice-read-word Inv-loop μ-loop
 shared-slice-read-word c = search needs
 
--- src/writer.rt:63:18
 mul-overwrite : tie.Need-mul-overwrite Inv-loop μ-loop
 mul-overwrite c = search needs
 
--- src/writer.rt:63:13
 add-overwrite : tie.Need-add-overwrite Inv-loop μ-loop
 add-overwrite c = search needs
 
--- src/writer.rt:64:15
 cast-t15 : tie.Need-cast-t15 Inv-loop μ-loop
 cast-t15 c = omega (arith, c .before .shared-slice-known2 .given (c .before .before .before .loop .done))
 
--- src/writer.rt:64:35
 cast-t17 : tie.Need-cast-t17 Inv-loop μ-loop
 cast-t17 c = search needs
 
--- src/writer.rt:64:13
 slice-aggregate-overwrite : tie.Need-slice-aggregate-overwrite Inv-loop μ-loop
 slice-aggregate-overwrite c = search needs
 
--- src/writer.rt:61:9
 overwrite-requires : tie.Need-overwrite-requires Inv-loop μ-loop
 overwrite-requires c κs = search needs
 
--- src/writer.rt:66:9
 add-done : tie.Need-add-done Inv-loop μ-loop
 add-done c = search needs
 
--- src/writer.rt:59:5
 loop-less : tie.Need-loop-less Inv-loop μ-loop
 loop-less c = search needs
 
--- src/writer.rt:59:5
 loop-again : tie.Need-loop-again Inv-loop μ-loop
 loop-again c =
     let a = c .before .before .before .before .before .before .before .before .before .before .args in
@@ -85,11 +69,9 @@ loop-again c =
       w .ensures ∙ rw (l .inv .2, words-one-more (a .words .now) (l .done) (omega arith), ← more, size),
     )
 
--- src/writer.rt:54:1
 same-length : tie.Need-same-length Inv-loop μ-loop
 same-length c = search needs
 
--- src/writer.rt:54:1
 returns : tie.Need-returns Inv-loop μ-loop
 returns c =
     let a = c .before .before .before .before .args in

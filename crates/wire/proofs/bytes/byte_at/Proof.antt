@@ -1,25 +1,17 @@
+-- `wire::bytes::byte_at` meets its contract.
+-- Assumes nothing.
 use lib.ListN.{List·getD-eq-default}
-use mathlib.Core.Path.{_≡_, refl, sym, ap, _∙_}
-use Prim.Native.Nat.{ℕ, suc, _+_, _*_, _-_, _≤_, _<_}
-use native.Mathlib.Omega.{arith}
-use borrow.Author.Tests.{eq-eqb, ne-eqb, lt-ltb, le-ltb, le-leb, lt-leb}
-use mathlib.Core.Logic.{⊎-elim}
-use lib.ListN.{length, getD, take, drop, set}
+use mathlib.Core.Path.{sym}
 use borrow.Author.Needs.{needs}
 use Rattle.wire.proofs.bytes.byte_at.Statement.{statement}
 use Rattle.wire.proofs.bytes.byte_at.Tie as tie
-use Rattle.wire.proofs.bytes.byte_at.Reads as reads
-use Rattle.wire.proofs.bytes.byte_at.Lts as lts
 
--- src/bytes.rt:11:9
 shared-slice-read-result : tie.Need-shared-slice-read-result
 shared-slice-read-result c = search needs
 
--- src/bytes.rt:7:1
 returns : tie.Need-returns
 returns c = search needs
 
--- src/bytes.rt:7:1
 returns-2 : tie.Need-returns-2
 returns-2 c = sym (List·getD-eq-default (c .before .args .bytes .now) 0 (c .if1 .left))
 

@@ -1,19 +1,15 @@
-use lib.ListN.{length-set}
+-- `wire::bytes::overwrite` meets its contract.
+-- Assumes nothing.
+use lib.ListN.{length-set, length}
 use native.Mathlib.Numerals.{add-one}
 use Rattle.wire.proofs.Writes.{overwritten-beyond}
-use lib.Seq.{paste, paste-zero, paste-suc, length-paste}
-use mathlib.Core.Path.{_≡_, refl, sym, ap, _∙_}
-use Prim.Native.Nat.{ℕ, suc, _+_, _*_, _-_, _≤_, _<_}
+use lib.Seq.{paste, paste-zero, paste-suc}
+use mathlib.Core.Path.{_≡_, refl, sym}
+use Prim.Native.Nat.{_-_, _≤_}
 use native.Mathlib.Omega.{arith}
 use borrow.Author.Needs.{needs}
-use borrow.Author.Tests.{eq-eqb, ne-eqb, lt-ltb, le-ltb, le-leb, lt-leb}
-use mathlib.Core.Logic.{⊎-elim}
-use lib.ListN.{length, getD, take, drop, set}
 use Rattle.wire.proofs.bytes.overwrite.Statement.{statement}
 use Rattle.wire.proofs.bytes.overwrite.Tie as tie
-use Rattle.wire.proofs.bytes.overwrite.Reads as reads
-use Rattle.wire.proofs.bytes.overwrite.Lts as lts
-use Rattle.wire.proofs.bytes.smaller.Reads as smaller-reads
 
 abbrev Inv-loop : tie.InvT-loop
 Inv-loop buffer₀ at bytes count done₀ buffer done =
@@ -22,47 +18,37 @@ Inv-loop buffer₀ at bytes count done₀ buffer done =
 abbrev μ-loop : tie.MeasureT-loop
 μ-loop buffer₀ at bytes count done₀ buffer done = count - done
 
--- src/bytes.rt:39:9
 returns : tie.Need-returns Inv-loop μ-loop
 returns c =
     let a = c .before .before .before .args in
     sym (overwritten-beyond (a .buffer .now) (a .at) (a .bytes .now) (omega arith))
 
--- src/bytes.rt:41:38
 sub-smaller : tie.Need-sub-smaller Inv-loop μ-loop
 sub-smaller c = search needs
 
--- src/bytes.rt:41:9
 smaller-requires : tie.Need-smaller-requires Inv-loop μ-loop
 smaller-requires c κs = search needs
 
--- src/bytes.rt:43:5
 loop-holds : tie.Need-loop-holds Inv-loop μ-loop
 loop-holds c =
     let a = c .before .before .before .before .args in
     (omega arith, refl, paste-zero (a .buffer .now) (a .at) (a .bytes .now))
 
--- src/bytes.rt:44:29
 shared-slice-read-buffer : tie.Need-shared-slice-read-buffer Inv-loop μ-loop
 shared-slice-read-buffer c = search needs
 
--- src/bytes.rt:44:16
 add-buffer : tie.Need-add-buffer Inv-loop μ-loop
 add-buffer c = search needs
 
--- src/bytes.rt:44:9
 slice-write-buffer : tie.Need-slice-write-buffer Inv-loop μ-loop
 slice-write-buffer c = search needs
 
--- src/bytes.rt:45:9
 add-done : tie.Need-add-done Inv-loop μ-loop
 add-done c = search needs
 
--- src/bytes.rt:43:5
 loop-less : tie.Need-loop-less Inv-loop μ-loop
 loop-less c = search needs
 
--- src/bytes.rt:43:5
 loop-again : tie.Need-loop-again Inv-loop μ-loop
 loop-again c =
     let a = c .before .before .before .before .before .before .before .args in
@@ -73,11 +59,9 @@ loop-again c =
       rw (l .inv .2, paste-suc (a .buffer .now) (a .at) (a .bytes .now) (l .done) 0 (omega arith) (omega arith), add-one),
     )
 
--- src/bytes.rt:35:1
 same-length : tie.Need-same-length Inv-loop μ-loop
 same-length c = c .before .loop .inv .1
 
--- src/bytes.rt:35:1
 returns-2 : tie.Need-returns-2 Inv-loop μ-loop
 returns-2 c =
     let l = c .before .loop in

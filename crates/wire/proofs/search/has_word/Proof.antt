@@ -1,16 +1,14 @@
+-- `wire::search::has_word` meets its contract.
+-- Assumes nothing.
 use Rattle.wire.proofs.Matches.{among-at, among-none}
 use borrow.Author.Count.{below-none, below-more}
-use mathlib.Core.Path.{_≡_, refl, sym, ap, _∙_}
-use Prim.Native.Nat.{ℕ, suc, _+_, _*_, _-_, _≤_, _<_}
+use mathlib.Core.Path.{_≡_, sym}
+use Prim.Native.Nat.{ℕ, _-_, _<_}
 use native.Mathlib.Omega.{arith}
 use borrow.Author.Needs.{needs}
-use borrow.Author.Tests.{eq-eqb, ne-eqb, lt-ltb, le-ltb, le-leb, lt-leb}
-use mathlib.Core.Logic.{⊎-elim}
-use lib.ListN.{length, getD, take, drop, set}
+use lib.ListN.{length, getD}
 use Rattle.wire.proofs.search.has_word.Statement.{statement}
 use Rattle.wire.proofs.search.has_word.Tie as tie
-use Rattle.wire.proofs.search.has_word.Reads as reads
-use Rattle.wire.proofs.search.has_word.Lts as lts
 
 abbrev Inv-loop : tie.InvT-loop
 Inv-loop words word at₀ at = (j : ℕ) → j < at → getD words j 0 ≡ word → ⊥
@@ -18,37 +16,29 @@ Inv-loop words word at₀ at = (j : ℕ) → j < at → getD words j 0 ≡ word 
 abbrev μ-loop : tie.MeasureT-loop
 μ-loop words word at₀ at = length words - at
 
--- src/search.rt:24:5
 loop-holds : tie.Need-loop-holds Inv-loop μ-loop
 loop-holds c = below-none (λ (j : ℕ). getD (c .args .words .now) j 0 ≡ c .args .word → ⊥)
 
--- src/search.rt:25:12
 mul-if1 : tie.Need-mul-if1 Inv-loop μ-loop
 mul-if1 c = search needs
 
--- src/search.rt:25:12
 shared-slice-read-if1 : tie.Need-shared-slice-read-if1 Inv-loop μ-loop
 shared-slice-read-if1 c = search needs
 
--- src/search.rt:26:13
 returns : tie.Need-returns Inv-loop μ-loop
 returns c =
     let a = c .before .before .before .before .args in
     sym (among-at (a .words .now) (a .word) (c .before .before .before .loop .at) (omega arith) (c .if1 .taken))
 
--- src/search.rt:28:9
 add-at : tie.Need-add-at Inv-loop μ-loop
 add-at c = search needs
 
--- src/search.rt:24:5
 loop-less : tie.Need-loop-less Inv-loop μ-loop
 loop-less c = search needs
 
--- src/search.rt:24:5
 loop-again : tie.Need-loop-again Inv-loop μ-loop
 loop-again c = below-more _ _ (c .before .before .before .loop .inv) (c .if1 .left)
 
--- src/search.rt:20:1
 returns-2 : tie.Need-returns-2 Inv-loop μ-loop
 returns-2 c =
     let a = c .before .before .args in

@@ -12,10 +12,6 @@ use Rattle.wire.specs.Bytes.{byteAt, wordAt, wordBytes, wordsBytes, part}
 use Rattle.keylist.specs.Layout.{pairsAt}
 use Rattle.keylist.specs.Stated.{AreBytes, pairNumbers}
 
-pub words-length : (numbers : List ℕ) → length (wordsBytes numbers) ≡ length numbers * 2
-words-length [] = refl
-words-length (n ∷ numbers) = omega (arith, words-length numbers)
-
 module _ (bytes : List ℕ) where
   -- what is read at an offset at which it stands written
   pub behind : (at n : ℕ) (front rest : List ℕ) → drop at bytes ≡ front ++ rest → length front ≡ n → drop (at + n) bytes ≡ rest
