@@ -1,7 +1,7 @@
 // The algorithms of RFC 9180 that 01 knows: one constant table, and lookups by number that read it alone.
 ghost use mathlib.Core.Path.{_≡_};
 ghost use Prim.Native.Nat.{max};
-ghost use Rattle.algorithms.specs.Table.{isRow, rowOf};
+ghost use Rattle.algorithms.specs.Table.{isRow, rowOf, kemKind, kdfKind, aeadKind};
 ghost use Rattle.algorithms.specs.Sizes.{isKnown, sizeOf, knownKem, knownKdf, knownAead, knownPair, encLength, publicKeyLength, shortestRequest, keyLength, responseNonceLength};
 
 // A row of the table. A KEM has Nenc and Npk, an AEAD has Nk; what an algorithm does not have is 0.
@@ -178,11 +178,17 @@ impl Kem {
     // The bytes of a request before enc: key id, KEM, KDF, AEAD.
     pub const HEAD: usize = 7;
 
+    fn row(self) -> Row
+        ensures { λ r. ⌜ r ≡ rowOf kemKind (self .0) ⌝ }
+    {
+        row_of(KEM, self.0)
+    }
+
     // Nenc: the length of enc.
     pub fn enc_length(self) -> Size
         ensures { λ r. ⌜ r ≡ sizeOf (knownKem (self .0)) (encLength (self .0)) ⌝ }
     {
-        let row = row_of(KEM, self.0);
+        let row = self.row();
         row.size(row.enc as usize)
     }
 
@@ -190,7 +196,7 @@ impl Kem {
     pub fn public_key_length(self) -> Size
         ensures { λ r. ⌜ r ≡ sizeOf (knownKem (self .0)) (publicKeyLength (self .0)) ⌝ }
     {
-        let row = row_of(KEM, self.0);
+        let row = self.row();
         row.size(row.public_key as usize)
     }
 
@@ -198,16 +204,22 @@ impl Kem {
     pub fn shortest_request(self) -> Size
         ensures { λ r. ⌜ r ≡ sizeOf (knownKem (self .0)) (shortestRequest (self .0)) ⌝ }
     {
-        let row = row_of(KEM, self.0);
+        let row = self.row();
         row.size(Kem::HEAD + (row.enc as usize) + Aead::TAG)
     }
 }
 
 impl Kdf {
+    fn row(self) -> Row
+        ensures { λ r. ⌜ r ≡ rowOf kdfKind (self .0) ⌝ }
+    {
+        row_of(KDF, self.0)
+    }
+
     pub fn is_known(self) -> bool
         ensures { λ r. ⌜ r ≡ knownKdf (self .0) ⌝ }
     {
-        let row = row_of(KDF, self.0);
+        let row = self.row();
         row.is_known()
     }
 }
@@ -218,10 +230,16 @@ impl Aead {
     // Nn: the length of a nonce.
     pub const NONCE: usize = 12;
 
+    fn row(self) -> Row
+        ensures { λ r. ⌜ r ≡ rowOf aeadKind (self .0) ⌝ }
+    {
+        row_of(AEAD, self.0)
+    }
+
     pub fn is_known(self) -> bool
         ensures { λ r. ⌜ r ≡ knownAead (self .0) ⌝ }
     {
-        let row = row_of(AEAD, self.0);
+        let row = self.row();
         row.is_known()
     }
 
@@ -229,7 +247,7 @@ impl Aead {
     pub fn key_length(self) -> Size
         ensures { λ r. ⌜ r ≡ sizeOf (knownAead (self .0)) (keyLength (self .0)) ⌝ }
     {
-        let row = row_of(AEAD, self.0);
+        let row = self.row();
         row.size(row.key as usize)
     }
 
@@ -237,7 +255,7 @@ impl Aead {
     pub fn response_nonce_length(self) -> Size
         ensures { λ r. ⌜ r ≡ sizeOf (knownAead (self .0)) (responseNonceLength (self .0)) ⌝ }
     {
-        let row = row_of(AEAD, self.0);
+        let row = self.row();
         row.size(larger(Aead::NONCE, row.key as usize))
     }
 }

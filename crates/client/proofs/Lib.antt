@@ -1,3 +1,5 @@
 -- Laws that belong to no one function.
 pub mod Parts
 pub mod Fronts
+pub mod Pairs
+pub mod Choosing

@@ -4,14 +4,16 @@
 use mathlib.Core.Path.{_≡_, refl, ap}
 use mathlib.Core.Bool.{Bool, true, false, not}
 use mathlib.Core.List.{List, [], _∷_, _++_}
-use Prim.Native.Nat.{ℕ, zero, suc, _+_, _≤_, _<_}
+use Prim.Native.Nat.{ℕ, zero, suc, _+_, _-_, _≤_, _<_}
 use native.Mathlib.Omega.{arith}
-use borrow.Author.Tests.{le-leb, lt-leb}
+use borrow.Author.Tests.{le-leb, lt-leb, ltb-false}
+use lib.Dec.{ltb}
 use lib.ListN.{length}
 use Rattle.wire.specs.Tests.{_and_}
 use Rattle.wire.specs.Search.{among}
 use Rattle.wire.specs.Refusals.{badList}
 use Rattle.wire.specs.declared.refusal.Refusal.{Refusal}
+use Rattle.wire.proofs.Booleans.{either}
 use Rattle.keylist.specs.declared.Checked.{Checked}
 use Rattle.keylist.specs.Layout.{Configuration, Outcome, good, bad, parse, parseFrom, followedBy, configurationAt, layoutHolds, keyIdAt, nextStart, mostConfigurations}
 use Rattle.keylist.specs.Answers.{checked}
@@ -42,6 +44,17 @@ module _ (more : ℕ) (taken bytes : List ℕ) (at : ℕ) where
       ≡ followedBy (configurationAt bytes at) (parseFrom more (taken ++ keyIdAt bytes at ∷ []) bytes (nextStart bytes at))
   unfolding parseFrom
   parse-more h e = rw (lt-leb (length bytes) at h, e)
+
+-- the code's one test: the limit and the configuration
+pub parse-refused : (taken bytes : List ℕ) (at : ℕ) → at < length bytes
+    → (ltb (length taken) mostConfigurations and goodAt taken bytes at) ≡ false
+    → parseFrom (mostConfigurations - length taken) taken bytes at ≡ bad (badList at)
+parse-refused taken bytes at h e =
+    either (ltb (length taken) mostConfigurations)
+    (λ few. parse-bad (mostConfigurations - length taken) taken bytes at h (rw few at e))
+    (λ many.
+    let full : mostConfigurations ≤ length taken = ltb-false (length taken) mostConfigurations many in
+    parse-too-many (mostConfigurations - length taken) taken bytes at h (omega arith))
 
 pub parse-some : (bytes : List ℕ) → 0 < length bytes → parse bytes ≡ parseFrom mostConfigurations [] bytes 0
 unfolding parse

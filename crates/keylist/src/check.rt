@@ -2,12 +2,13 @@
 ghost use mathlib.Core.Path.{_≡_};
 ghost use Prim.Native.Nat.{_<_, _≤_};
 ghost use mathlib.Core.Bool.{not};
+ghost use lib.Dec.{ltb};
 ghost use lib.ListN.{length};
-ghost use Rattle.wire.specs.Tests.{_and_};
+ghost use Rattle.wire.specs.Tests.{_and_, pick};
 ghost use Rattle.wire.specs.Search.{among};
 ghost use Rattle.wire.specs.Refusals.{badList};
 ghost use Rattle.algorithms.specs.Sizes.{publicKeyLength};
-ghost use Rattle.keylist.specs.Layout.{parse, layoutHolds, pairBytesHold, keyIdAt};
+ghost use Rattle.keylist.specs.Layout.{parse, mostConfigurations, layoutHolds, pairBytesHold, keyIdAt, nextStart};
 ghost use Rattle.keylist.specs.Answers.{checked, placeAt};
 use crate::Checked;
 use crate::Place;
@@ -43,13 +44,20 @@ pub fn pair_bytes_hold(size: usize) -> bool
     size <= MOST_PAIR_BYTES
 }
 
+// Where the next configuration would start. An offset in the list, so that no sum wraps.
+fn next_start(list: &[u8], at: usize) -> usize
+    requires { ⌜ at < length (now list) ⌝ }
+    ensures { λ r. ⌜ r ≡ nextStart (now (list .entry)) at ⌝ }
+{
+    at + 2 + (word_at(list, at) as usize)
+}
+
 // The configuration at an offset of the list keeps the layout's rules.
 fn layout_holds(list: &[u8], at: usize) -> bool
     requires { ⌜ at < length (now list) ⌝ }
     ensures { λ r. ⌜ r ≡ layoutHolds (now (list .entry)) at ⌝ }
 {
-    let length = word_at(list, at) as usize;
-    if list.len() < at + 2 + length {
+    if list.len() < next_start(list, at) {
         return false;
     }
     let key = key_length(word_at(list, at + 3));
@@ -57,22 +65,26 @@ fn layout_holds(list: &[u8], at: usize) -> bool
         return false;
     }
     let pair_bytes = word_at(list, at + 5 + key) as usize;
-    if length != 5 + key + pair_bytes {
+    if (word_at(list, at) as usize) != 5 + key + pair_bytes {
         return false;
     }
     pair_bytes_hold(pair_bytes)
 }
 
-// The same, and its key id is not taken.
+// The same, with its key id not taken and with fewer than the most configurations before it.
 fn is_good(list: &[u8], at: usize, taken: &[u8]) -> bool
     requires { ⌜ at < length (now list) ⌝ }
-    ensures { λ r. ⌜ r ≡ (layoutHolds (now (list .entry)) at and not (among (now (taken .entry)) (keyIdAt (now (list .entry)) at))) ⌝ }
+    ensures { λ r. ⌜ r ≡ (ltb (length (now (taken .entry))) mostConfigurations
+        and layoutHolds (now (list .entry)) at
+        and not (among (now (taken .entry)) (keyIdAt (now (list .entry)) at))) ⌝ }
 {
-    if layout_holds(list, at) {
-        !has_byte(taken, byte_at(list, at + 2))
-    } else {
-        false
+    if MOST_CONFIGURATIONS <= taken.len() {
+        return false;
     }
+    if !layout_holds(list, at) {
+        return false;
+    }
+    !has_byte(taken, byte_at(list, at + 2))
 }
 
 // The number of configurations of a list, or 15 with the place of the first bad one.
@@ -86,17 +98,25 @@ pub fn check(list: &[u8]) -> Checked
     let mut count = 0;
     let mut at = 0;
     while at < list.len() {
-        if count == MOST_CONFIGURATIONS {
-            return Checked::Refused(bad_list(at));
-        }
         if !is_good(list, at, &taken[..count]) {
-            return Checked::Refused(bad_list(at));
+            return outcome(false, count, at);
         }
         taken[count] = byte_at(list, at + 2);
         count += 1;
-        at = at + 2 + (word_at(list, at) as usize);
+        at = next_start(list, at);
     }
-    Checked::Good(count)
+    outcome(true, count, at)
+}
+
+// So many configurations where the whole list is good; else 15 at the place, whatever was good before it.
+fn outcome(whole: bool, count: usize, place: usize) -> Checked
+    ensures { λ r. ⌜ r ≡ pick whole (Checked.Good count) (Checked.Refused (badList place)) ⌝ }
+{
+    if whole {
+        Checked::Good(count)
+    } else {
+        Checked::Refused(bad_list(place))
+    }
 }
 
 // The fields of the configuration whose length stands at an offset, and where its parts lie.
@@ -118,7 +138,7 @@ pub fn place_at(list: &[u8], at: usize) -> Place
         kem,
         key_start: at + 5,
         key_end: at + 5 + key_length(kem),
-        end: at + 2 + (word_at(list, at) as usize),
+        end: next_start(list, at),
     }
 }
 

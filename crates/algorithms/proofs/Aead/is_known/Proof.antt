@@ -6,15 +6,15 @@ use borrow.Author.Needs.{needs}
 use Rattle.algorithms.proofs.Aead.is_known.Statement.{statement}
 use Rattle.algorithms.proofs.Aead.is_known.Tie as tie
 
-row-of-requires : tie.Need-row-of-requires
-row-of-requires c κs = search needs
+row-requires : tie.Need-row-requires
+row-requires c κs = search needs
 
 is-known-requires : tie.Need-is-known-requires
 is-known-requires c κs = search needs
 
 returns : tie.Need-returns
 unfolding knownAead
-returns c = c .is-known .ensures ∙ rw (c .before .row-of .ensures)
+returns c = c .is-known .ensures ∙ rw (c .before .row .ensures)
 
 pub is-known-spec : {M : Type 1} → statement M
-is-known-spec = tie.close (tie.spec row-of-requires is-known-requires returns)
+is-known-spec = tie.close (tie.spec row-requires is-known-requires returns)

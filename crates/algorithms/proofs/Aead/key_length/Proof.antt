@@ -6,8 +6,8 @@ use borrow.Author.Needs.{needs}
 use Rattle.algorithms.proofs.Aead.key_length.Statement.{statement}
 use Rattle.algorithms.proofs.Aead.key_length.Tie as tie
 
-row-of-requires : tie.Need-row-of-requires
-row-of-requires c κs = search needs
+row-requires : tie.Need-row-requires
+row-requires c κs = search needs
 
 cast-size : tie.Need-cast-size
 cast-size c = search needs
@@ -17,7 +17,7 @@ size-requires c κs = search needs
 
 returns : tie.Need-returns
 unfolding knownAead keyLength
-returns c = c .size .ensures ∙ rw (c .before .before .row-of .ensures)
+returns c = c .size .ensures ∙ rw (c .before .before .row .ensures)
 
 pub key-length-spec : {M : Type 1} → statement M
-key-length-spec = tie.close (tie.spec row-of-requires cast-size size-requires returns)
+key-length-spec = tie.close (tie.spec row-requires cast-size size-requires returns)

@@ -6,8 +6,8 @@ use borrow.Author.Needs.{needs}
 use Rattle.algorithms.proofs.Aead.response_nonce_length.Statement.{statement}
 use Rattle.algorithms.proofs.Aead.response_nonce_length.Tie as tie
 
-row-of-requires : tie.Need-row-of-requires
-row-of-requires c κs = search needs
+row-requires : tie.Need-row-requires
+row-requires c κs = search needs
 
 cast-larger : tie.Need-cast-larger
 cast-larger c = search needs
@@ -20,8 +20,8 @@ size-requires c κs = search needs
 
 returns : tie.Need-returns
 unfolding knownAead keyLength
-returns c = c .size .ensures ∙ rw (c .before .larger .ensures, c .before .before .before .row-of .ensures)
+returns c = c .size .ensures ∙ rw (c .before .larger .ensures, c .before .before .before .row .ensures)
 
 pub response-nonce-length-spec : {M : Type 1} → statement M
 response-nonce-length-spec =
-    tie.close (tie.spec row-of-requires cast-larger larger-requires size-requires returns)
+    tie.close (tie.spec row-requires cast-larger larger-requires size-requires returns)

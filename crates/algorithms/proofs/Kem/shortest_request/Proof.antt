@@ -6,8 +6,8 @@ use borrow.Author.Needs.{needs}
 use Rattle.algorithms.proofs.Kem.shortest_request.Statement.{statement}
 use Rattle.algorithms.proofs.Kem.shortest_request.Tie as tie
 
-row-of-requires : tie.Need-row-of-requires
-row-of-requires c κs = search needs
+row-requires : tie.Need-row-requires
+row-requires c κs = search needs
 
 cast-size : tie.Need-cast-size
 cast-size c = search needs
@@ -23,8 +23,8 @@ size-requires c κs = search needs
 
 returns : tie.Need-returns
 unfolding knownKem encLength
-returns c = c .size .ensures ∙ rw (c .before .before .row-of .ensures)
+returns c = c .size .ensures ∙ rw (c .before .before .row .ensures)
 
 pub shortest-request-spec : {M : Type 1} → statement M
 shortest-request-spec =
-    tie.close (tie.spec row-of-requires cast-size add-size add-size-2 size-requires returns)
+    tie.close (tie.spec row-requires cast-size add-size add-size-2 size-requires returns)

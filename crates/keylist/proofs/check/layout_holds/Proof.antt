@@ -9,17 +9,8 @@ use borrow.Author.Needs.{needs}
 use Rattle.keylist.proofs.check.layout_holds.Statement.{statement}
 use Rattle.keylist.proofs.check.layout_holds.Tie as tie
 
-word-at-requires : tie.Need-word-at-requires
-word-at-requires c κs = search needs
-
-cast-length : tie.Need-cast-length
-cast-length c = search needs
-
-add-if1 : tie.Need-add-if1
-add-if1 c = search needs
-
-add-if1-2 : tie.Need-add-if1-2
-add-if1-2 c = search needs
+next-start-requires : tie.Need-next-start-requires
+next-start-requires c κs = search needs
 
 returns : tie.Need-returns
 returns c =
@@ -29,18 +20,21 @@ returns c =
 add-word-at : tie.Need-add-word-at
 add-word-at c = search needs
 
-word-at-requires-2 : tie.Need-word-at-requires-2
-word-at-requires-2 c κs = search needs
+word-at-requires : tie.Need-word-at-requires
+word-at-requires c κs = search needs
 
 key-length-requires : tie.Need-key-length-requires
 key-length-requires c κs = search needs
 
+-- Npk of the configuration's KEM, as the code has read it
+key-read : (c : tie.After-key-length)
+    → c .key-length .result ≡ publicKeyLength (kemAt (c .before .before .before .before .before .args .list .now) (c .before .before .before .before .before .args .at))
+key-read c = c .key-length .ensures .0 ∙ ap publicKeyLength (c .before .word-at .ensures)
+
 returns-2 : tie.Need-returns-2
 returns-2 c =
     let a = c .before .before .before .before .before .before .args in
-    let key : c .before .key-length .result ≡ publicKeyLength (kemAt (a .list .now) (a .at)) =
-    c .before .key-length .ensures .0 ∙ ap publicKeyLength (c .before .before .word-at2 .ensures) in
-    sym (holds-not-kem (a .list .now) (a .at) (omega arith) (sym key ∙ c .if2 .taken))
+    sym (holds-not-kem (a .list .now) (a .at) (omega arith) (sym (key-read (c .before)) ∙ c .if2 .taken))
 
 add-word-at-2 : tie.Need-add-word-at-2
 add-word-at-2 c = search needs
@@ -48,11 +42,17 @@ add-word-at-2 c = search needs
 add-word-at-3 : tie.Need-add-word-at-3
 add-word-at-3 c = search needs
 
-word-at-requires-3 : tie.Need-word-at-requires-3
-word-at-requires-3 c κs = search needs
+word-at-requires-2 : tie.Need-word-at-requires-2
+word-at-requires-2 c κs = search needs
 
 cast-pair-bytes : tie.Need-cast-pair-bytes
 cast-pair-bytes c = search needs
+
+word-at-requires-3 : tie.Need-word-at-requires-3
+word-at-requires-3 c κs = search needs
+
+cast-if3 : tie.Need-cast-if3
+cast-if3 c = search needs
 
 add-if3 : tie.Need-add-if3
 add-if3 c = search needs
@@ -62,11 +62,10 @@ add-if3-2 c = search needs
 
 returns-3 : tie.Need-returns-3
 returns-3 c =
-    let a = c .before .before .before .before .before .before .before .before .args in
-    let key : c .before .before .before .key-length .result ≡ publicKeyLength (kemAt (a .list .now) (a .at)) =
-    c .before .before .before .key-length .ensures .0 ∙ ap publicKeyLength (c .before .before .before .before .word-at2 .ensures) in
-    let pair : c .before .word-at3 .result ≡ pairBytesAt (a .list .now) (a .at) =
-    rw key at (c .before .word-at3 .ensures) in
+    let key = key-read (c .before .before .before .before) in
+    let a = c .before .before .before .before .before .before .before .before .before .args in
+    let pair : c .before .before .word-at2 .result ≡ pairBytesAt (a .list .now) (a .at) =
+    rw key at (c .before .before .word-at2 .ensures) in
     sym (holds-not-length (a .list .now) (a .at) (omega arith) (omega arith) (λ e. c .if3 .taken (omega arith)))
 
 pair-bytes-hold-requires : tie.Need-pair-bytes-hold-requires
@@ -74,11 +73,10 @@ pair-bytes-hold-requires c κs = search needs
 
 returns-4 : tie.Need-returns-4
 returns-4 c =
-    let a = c .before .before .before .before .before .before .before .before .before .args in
-    let key : c .before .before .before .before .key-length .result ≡ publicKeyLength (kemAt (a .list .now) (a .at)) =
-    c .before .before .before .before .key-length .ensures .0 ∙ ap publicKeyLength (c .before .before .before .before .before .word-at2 .ensures) in
-    let pair : c .before .before .word-at3 .result ≡ pairBytesAt (a .list .now) (a .at) =
-    rw key at (c .before .before .word-at3 .ensures) in
+    let key = key-read (c .before .before .before .before .before) in
+    let a = c .before .before .before .before .before .before .before .before .before .before .args in
+    let pair : c .before .before .before .word-at2 .result ≡ pairBytesAt (a .list .now) (a .at) =
+    rw key at (c .before .before .before .word-at2 .ensures) in
     c .pair-bytes-hold .ensures ∙ ap pairBytesHold pair
     ∙ sym (holds-by-pairs (a .list .now) (a .at) (omega arith) (omega arith) (omega arith))
 
@@ -86,19 +84,18 @@ pub layout-holds-spec : {M : Type 1} → statement M
 layout-holds-spec =
     tie.close
     (tie.spec
-    word-at-requires
-    cast-length
-    add-if1
-    add-if1-2
+    next-start-requires
     returns
     add-word-at
-    word-at-requires-2
+    word-at-requires
     key-length-requires
     returns-2
     add-word-at-2
     add-word-at-3
-    word-at-requires-3
+    word-at-requires-2
     cast-pair-bytes
+    word-at-requires-3
+    cast-if3
     add-if3
     add-if3-2
     returns-3

@@ -36,22 +36,13 @@ key-length-requires c κs = search needs
 add-t10 : tie.Need-add-t10
 add-t10 c = search needs
 
-add-t11 : tie.Need-add-t11
-add-t11 c = search needs
-
-word-at-requires-2 : tie.Need-word-at-requires-2
-word-at-requires-2 c κs = search needs
-
-cast-t13 : tie.Need-cast-t13
-cast-t13 c = search needs
-
-add-t14 : tie.Need-add-t14
-add-t14 c = search needs
+next-start-requires : tie.Need-next-start-requires
+next-start-requires c κs = search needs
 
 returns-2 : tie.Need-returns-2
 returns-2 c =
     let a = c .before .before .before .before .before .before .args in
-    rw (lt-ltb (a .at) (length (a .list .now)) (omega arith), c .before .before .byte-at .ensures, c .before .key-length .ensures .0, c .before .before .before .word-at .ensures, c .word-at2 .ensures)
+    rw (lt-ltb (a .at) (length (a .list .now)) (omega arith), c .before .before .byte-at .ensures, c .before .key-length .ensures .0, c .before .before .before .word-at .ensures, c .next-start .ensures)
 
 pub place-at-spec : {M : Type 1} → statement M
 place-at-spec =
@@ -66,8 +57,5 @@ place-at-spec =
     add-t8
     key-length-requires
     add-t10
-    add-t11
-    word-at-requires-2
-    cast-t13
-    add-t14
+    next-start-requires
     returns-2)

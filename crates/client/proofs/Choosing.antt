@@ -1,0 +1,150 @@
+-- The choice in a good list, one configuration at a time, and the statement of specs/Choose.
+-- Assumes nothing.
+use mathlib.Core.Path.{_≡_, refl, sym, _∙_}
+use mathlib.Core.Bool.{true, false}
+use mathlib.Core.List.{List, [], _∷_}
+use Prim.Native.Nat.{ℕ, _/_, _%_}
+use native.Mathlib.Omega.{arith}
+use borrow.Author.Tests.{ltb-true, ltb-false}
+use lib.Dec.{eqb, ltb}
+use lib.ListN.{length}
+use Rattle.wire.specs.Search.{anyPasses, among}
+use Rattle.wire.specs.Refusals.{refused}
+use Rattle.wire.specs.declared.refusal.Refusal.{Refusal}
+use Rattle.wire.proofs.Booleans.{either, true-or-false, and-left, and-right, and-false}
+use Rattle.algorithms.specs.Sizes.{knownKem, knownPair}
+use Rattle.algorithms.proofs.Stated.{size-bounds}
+use Rattle.keylist.specs.Layout.{Pair, Configuration, Outcome, good, bad, parse, nextStart, configurationAt, layoutHolds, pairsAt, keyIdAt, kemAt, keyStart, keyEnd, pairBytesAt, pairsStart}
+use Rattle.keylist.proofs.LayoutLaws.{Holds, holds-by-pairs}
+use Rattle.keylist.proofs.Walk.{GoodFrom, GoodNext, walk-start, walk-next, walk-end, key-length-at}
+use Rattle.client.specs.declared.choose.Choice.{Choice}
+use Rattle.client.specs.declared.choose.Chosen.{Chosen}
+use Rattle.client.specs.declared.choose.PairFound.{PairFound}
+use Rattle.client.specs.Choose.{listed, usablePair, usable, firstUsable, pairFound, choice, chooseFirst, chooseFrom, CanUse, IsRefused, ChosenIsUsable}
+use Rattle.client.proofs.Pairs.{pair-there, none-there, listed-place, any-first}
+
+-- the pairs of the configuration at an offset
+abbrev pub pairsHere : List ℕ → ℕ → List Pair
+pairsHere bytes at = pairsAt (pairBytesAt bytes at / 4) bytes (pairsStart bytes at)
+
+usable-or-refused : {x : Choice} {r : Refusal} → Chosen.Usable x ≡ Chosen.Refused r → ⊥
+usable-or-refused e = let z : _≡_ {A = ℕ} 0 1 = cc in omega arith
+
+module _ (kems numbers bytes : List ℕ) (at : ℕ) where
+  abbrev pub chosenHere : Chosen
+  chosenHere = chooseFirst kems numbers (configurationAt bytes at ∷ [])
+
+  -- not the client's KEM
+  pub other-kem : among kems (kemAt bytes at) ≡ false → chosenHere ≡ Chosen.Refused (refused 16)
+  unfolding configurationAt
+  other-kem e = rw e
+
+  -- no usable pair
+  pub no-pair : pairFound numbers (pairsHere bytes at) ≡ PairFound.Nothing → chosenHere ≡ Chosen.Refused (refused 16)
+  unfolding configurationAt
+  no-pair e =
+      let some = anyPasses (usablePair numbers) (pairsHere bytes at) in
+      let none = none-there some (firstUsable numbers (pairsHere bytes at)) e in
+      rw (and-false (among kems (kemAt bytes at)) some none)
+
+  -- a configuration that can be used, and its pair
+  pub chosen-here : {kdf aead : ℕ} → Holds bytes at → among kems (kemAt bytes at) ≡ true
+      → pairFound numbers (pairsHere bytes at) ≡ PairFound.Pair kdf aead
+      → chosenHere ≡ Chosen.Usable
+      (record {
+        «key_id» = keyIdAt bytes at;
+        kem = kemAt bytes at;
+        kdf = kdf;
+        aead = aead;
+        «key_start» = keyStart at;
+        «key_end» = keyEnd bytes at;
+      })
+  unfolding configurationAt
+  chosen-here h k e =
+      let t = pair-there (anyPasses (usablePair numbers) (pairsHere bytes at)) (firstUsable numbers (pairsHere bytes at)) e in
+      rw (k, t .0, t .1, t .2, key-length-at bytes at h)
+
+-- the rules that hold, as the test of them
+pub good-layout : (bytes : List ℕ) (at : ℕ) → Holds bytes at → layoutHolds bytes at ≡ true
+good-layout bytes at h =
+    holds-by-pairs bytes at (h .whole) (size-bounds .keyIsThere (kemAt bytes at) (h .kem)) (h .sizes) ∙ h .pairs
+
+module _ (kems numbers bytes : List ℕ) (at : ℕ) {rest : List Configuration} (n : GoodNext bytes at rest) where
+  -- the next configuration is chosen
+  pub chosen-first : {x : Choice} → chosenHere kems numbers bytes at ≡ Chosen.Usable x
+      → chooseFirst kems numbers rest ≡ Chosen.Usable x
+  chosen-first e =
+      rw (n .first)
+      (either (usable kems numbers (configurationAt bytes at)) (λ u. rw u (rw u at e))
+      (λ u. absurd (usable-or-refused (sym (rw u at e)))))
+
+  -- it is passed over
+  pub chosen-later : {r : Refusal} → chosenHere kems numbers bytes at ≡ Chosen.Refused r
+      → chooseFirst kems numbers rest ≡ chooseFirst kems numbers (n .next .rest)
+  chosen-later e =
+      rw (n .first)
+      (either (usable kems numbers (configurationAt bytes at))
+      (λ u. absurd (usable-or-refused (rw u at e))) (λ u. rw u))
+
+module _ (kems numbers : List ℕ) where
+  -- a usable configuration, and the first of its usable pairs
+  can-use-first : (c : Configuration) → knownKem (c .kem) ≡ true → usable kems numbers c ≡ true
+      → CanUse kems numbers (choice c (firstUsable numbers (c .pairs)))
+  can-use-first c k u =
+      let p = firstUsable numbers (c .pairs) in
+      let passes : usablePair numbers p ≡ true =
+      any-first (record { kdf = 0; aead = 0 }) (usablePair numbers) (c .pairs)
+      (and-right (among kems (c .kem)) (anyPasses (usablePair numbers) (c .pairs)) u) in
+      record {
+        kem = and-left (among kems (c .kem)) (anyPasses (usablePair numbers) (c .pairs)) u;
+        kemKnown = k;
+        pair = listed-place numbers p (and-left (listed numbers p) (knownPair (p .kdf) (p .aead)) passes);
+        pairKnown = and-right (listed numbers p) (knownPair (p .kdf) (p .aead)) passes;
+      }
+
+  -- what is chosen among the configurations that are left of a good list
+  can-use-rest : (bytes : List ℕ) (x : Choice) (rest : List Configuration) (at : ℕ) (w : GoodFrom bytes at) → w .rest ≡ rest
+      → chooseFirst kems numbers rest ≡ Chosen.Usable x → CanUse kems numbers x
+  unfolding configurationAt
+  can-use-rest bytes x [] at w e f = absurd (usable-or-refused (sym f))
+  can-use-rest bytes x (c ∷ cs) at w e f =
+      either (ltb at (length bytes))
+      (λ h.
+      let n = walk-next bytes at w (ltb-true at (length bytes) h) in
+      let here : c ∷ cs ≡ configurationAt bytes at ∷ n .next .rest = sym e ∙ n .first in
+      let same : c ≡ configurationAt bytes at = cc in
+      either (usable kems numbers c)
+      (λ u.
+      let answer = rw u at f in
+      let is : choice c (firstUsable numbers (c .pairs)) ≡ x = cc in
+      rw is at (can-use-first c (rw same (n .holding .kem)) u))
+      (λ u. can-use-rest bytes x cs (nextStart bytes at) (n .next) (cc) (rw u at f)))
+      (λ h. absurd (let none : [] ≡ c ∷ cs = sym (walk-end bytes at w (ltb-false at (length bytes) h)) ∙ e in
+      let z : _≡_ {A = ℕ} 0 1 = cc in omega arith))
+
+  -- what is chosen in a list
+  can-use : (bytes : List ℕ) (x : Choice) (p : Outcome (List Configuration)) → parse bytes ≡ p
+      → chooseFrom kems numbers p ≡ Chosen.Usable x → CanUse kems numbers x
+  unfolding walk-start
+  can-use bytes x (bad r) e f = absurd (usable-or-refused (sym f))
+  can-use bytes x (good cs) e f =
+      either (eqb (length numbers % 2) 0)
+      (λ even. can-use-rest bytes x cs 0 (walk-start bytes cs e) refl (rw even at f))
+      (λ odd. absurd (usable-or-refused (sym (rw odd at f))))
+
+refused-unless : (answer : Chosen) → ((x : Choice) → answer ≡ Chosen.Usable x → ⊥) → IsRefused answer
+refused-unless (Chosen.Usable x) never = absurd (never x refl)
+refused-unless (Chosen.Refused r) never = (r, refl)
+
+pub chosen-is-usable : ChosenIsUsable
+unfolding anyPasses
+chosen-is-usable =
+    record {
+      canUse = λ kems numbers bytes x e. can-use kems numbers bytes x (parse bytes) refl e;
+      noKems = λ numbers bytes.
+          refused-unless (chooseFrom [] numbers (parse bytes))
+          (λ x e. true-or-false (can-use [] numbers bytes x (parse bytes) refl e .kem) refl);
+      noPairs = λ kems bytes.
+          refused-unless (chooseFrom kems [] (parse bytes))
+          (λ x e. let p = can-use kems [] bytes x (parse bytes) refl e .pair in omega arith);
+    }

@@ -1,0 +1,107 @@
+-- `client::choose::choose_in_good` meets its contract. The loop's invariant: the choice is the choice among the configurations that
+-- are left, and at the offset the first of them starts. The measure is what is left of the list.
+-- Assumes nothing.
+use mathlib.Core.Path.{_≡_, sym, _∙_}
+use Prim.Native.Nat.{_-_, _≤_}
+use native.Mathlib.Omega.{arith}
+use borrow.Author.Needs.{needs}
+use borrow.Author.Tests.{eq-eqb}
+use lib.ListN.{length}
+use Rattle.keylist.proofs.Walk.{GoodFrom, GoodNext, walk-start, walk-next, walk-end}
+use Rattle.keylist.specs.Layout.{parse}
+use Rattle.client.specs.Choose.{chooseFrom, chooseFirst}
+use Rattle.client.proofs.Choosing.{good-layout, chosen-first, chosen-later}
+use Rattle.client.proofs.choose.choose_in_good.Statement.{statement}
+use Rattle.client.proofs.choose.choose_in_good.Tie as tie
+
+abbrev Inv-loop : tie.InvT-loop
+Inv-loop list kems pairs at₀ at =
+    (w : GoodFrom list at) × (chooseFrom kems pairs (parse list) ≡ chooseFirst kems pairs (w .rest)) × (at ≤ length list)
+
+abbrev μ-loop : tie.MeasureT-loop
+μ-loop list kems pairs at₀ at = length list - at
+
+loop-holds : tie.Need-loop-holds Inv-loop μ-loop
+unfolding walk-start
+loop-holds c =
+    let a = c .before .before .before .args in
+    let p = c .before .before .before .pre in
+    (walk-start (a .list .now) (p .0 .0) (p .0 .1), rw (p .0 .1, eq-eqb _ _ (p .1)), omega arith)
+
+-- what is known of the configuration at the loop's offset
+next : (c : tie.In-loop Inv-loop μ-loop)
+    → GoodNext (c .before .before .before .before .before .args .list .now) (c .before .loop .at) (c .before .loop .inv .0 .rest)
+next c =
+    let l = c .before .loop in
+    walk-next (c .before .before .before .before .before .args .list .now) (l .at) (l .inv .0) (omega arith)
+
+choose-at-requires : tie.Need-choose-at-requires Inv-loop μ-loop
+choose-at-requires c κs =
+    good-layout (c .before .before .before .before .before .args .list .now) (c .before .loop .at) (next c .holding)
+
+enum-known-choice : tie.Need-enum-known-choice Inv-loop μ-loop
+enum-known-choice c = search needs
+
+returns : tie.Need-returns Inv-loop μ-loop
+returns c =
+    let a = c .before .before .before .before .before .before .before .before .before .args in
+    let l = c .before .before .before .before .before .loop in
+    let n = next (c .before .before .before .before) in
+    let here = sym (c .before .before .before .choose-at .ensures) ∙ c .before .choice .given .1 in
+    sym (l .inv .1 ∙ chosen-first (a .kems .now) (a .pairs .now) (a .list .now) (l .at) n here)
+
+enum-told : tie.Need-enum-told Inv-loop μ-loop
+enum-told c = search needs
+
+add-at : tie.Need-add-at Inv-loop μ-loop
+add-at c = search needs
+
+word-at-requires : tie.Need-word-at-requires Inv-loop μ-loop
+word-at-requires c κs = search needs
+
+cast-at : tie.Need-cast-at Inv-loop μ-loop
+cast-at c = search needs
+
+add-at-2 : tie.Need-add-at-2 Inv-loop μ-loop
+add-at-2 c = search needs
+
+loop-less : tie.Need-loop-less Inv-loop μ-loop
+loop-less c = omega arith
+
+loop-again : tie.Need-loop-again Inv-loop μ-loop
+loop-again c =
+    let a = c .before .before .before .before .before .before .before .before .before .args in
+    let l = c .before .before .before .before .before .loop in
+    let n = next (c .before .before .before .before) in
+    let here = sym (c .before .before .before .choose-at .ensures) ∙ c .before .enum-told .given .1 in
+    let later = l .inv .1 ∙ chosen-later (a .kems .now) (a .pairs .now) (a .list .now) (l .at) n here in
+    rw (c .word-at .ensures) (n .next, later, n .holding .whole)
+
+refused-requires : tie.Need-refused-requires Inv-loop μ-loop
+refused-requires c κs = search needs
+
+returns-2 : tie.Need-returns-2 Inv-loop μ-loop
+returns-2 c =
+    let list = c .before .before .before .before .before .before .args .list .now in
+    let l = c .before .before .loop in
+    rw (l .inv .1, walk-end list (l .at) (l .inv .0) (omega arith)) (c .refused .ensures)
+
+pub choose-in-good-spec : {M : Type 1} → statement M
+choose-in-good-spec =
+    tie.close
+    (tie.spec
+    Inv-loop
+    μ-loop
+    loop-holds
+    choose-at-requires
+    enum-known-choice
+    returns
+    enum-told
+    add-at
+    word-at-requires
+    cast-at
+    add-at-2
+    loop-less
+    loop-again
+    refused-requires
+    returns-2)
