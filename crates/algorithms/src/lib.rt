@@ -2,7 +2,7 @@
 ghost use mathlib.Core.Path.{_≡_};
 ghost use Prim.Native.Nat.{max};
 ghost use Rattle.algorithms.specs.Table.{isRow, rowOf, kemKind, kdfKind, aeadKind};
-ghost use Rattle.algorithms.specs.Sizes.{isKnown, sizeOf, knownKem, knownKdf, knownAead, knownPair, encLength, publicKeyLength, shortestRequest, keyLength, responseNonceLength};
+ghost use Rattle.algorithms.specs.Sizes.{isKnown, sizeOf, knownKem, knownKdf, knownAead, knownPair, encLength, publicKeyLength, shortestRequest, keyLength, responseNonceLength, secretLength};
 
 // A row of the table. A KEM has Nenc and Npk, an AEAD has Nk; what an algorithm does not have is 0.
 pub struct Row {
@@ -251,12 +251,19 @@ impl Aead {
         row.size(row.key as usize)
     }
 
-    // The length of the response nonce, which is also that of the exported secret: max(Nn, Nk).
+    // The length of the response nonce: max(Nn, Nk).
     pub fn response_nonce_length(self) -> Size
         ensures { λ r. ⌜ r ≡ sizeOf (knownAead (self .0)) (responseNonceLength (self .0)) ⌝ }
     {
         let row = self.row();
         row.size(larger(Aead::NONCE, row.key as usize))
+    }
+
+    // The length of the secret that is exported for the response: that of the response nonce.
+    pub fn secret_length(self) -> Size
+        ensures { λ r. ⌜ r ≡ sizeOf (knownAead (self .0)) (secretLength (self .0)) ⌝ }
+    {
+        self.response_nonce_length()
     }
 }
 

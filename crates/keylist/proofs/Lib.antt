@@ -8,3 +8,4 @@ pub mod OneConfiguration
 pub mod RoundTrip
 pub mod FieldsWalk
 pub mod Writing
+pub mod Edges

@@ -4,3 +4,4 @@ pub mod Layout
 pub mod Answers
 pub mod Writer
 pub mod Stated
+pub mod Edges
