@@ -20,19 +20,19 @@ use wire::refusal::Refusal;
 use wire::search::has_byte;
 
 // The house limits.
-pub const MOST_CONFIGURATIONS: usize = 16;
+pub(crate) const MOST_CONFIGURATIONS: usize = 16;
 
-pub const MOST_PAIR_BYTES: usize = 64;
+pub(crate) const MOST_PAIR_BYTES: usize = 64;
 
 // 15, with its place.
-pub fn bad_list(place: usize) -> Refusal
+pub(crate) fn bad_list(place: usize) -> Refusal
     ensures { λ r. ⌜ r ≡ badList place ⌝ }
 {
     Refusal { number: 15, place }
 }
 
 // So many pair bytes may be in one configuration.
-pub fn pair_bytes_hold(size: usize) -> bool
+pub(crate) fn pair_bytes_hold(size: usize) -> bool
     ensures { λ r. ⌜ r ≡ pairBytesHold size ⌝ }
 {
     if size % 4 != 0 {
@@ -143,7 +143,7 @@ pub fn place_at(list: &[u8], at: usize) -> Place
 }
 
 // Npk, 0 where the KEM is unknown.
-pub fn key_length(kem: u16) -> usize
+pub(crate) fn key_length(kem: u16) -> usize
     ensures { λ r. ⌜ r ≡ publicKeyLength kem ⌝ }
     ensures bound { λ r. ⌜ r ≤ 133 ⌝ }
 {
