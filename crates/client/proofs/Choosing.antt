@@ -67,7 +67,7 @@ module _ (kems numbers bytes : List ℕ) (at : ℕ) where
 -- the rules that hold, as the test of them
 pub good-layout : (bytes : List ℕ) (at : ℕ) → Holds bytes at → layoutHolds bytes at ≡ true
 good-layout bytes at h =
-    holds-by-pairs bytes at (h .whole) (size-bounds .keyIsThere (kemAt bytes at) (h .kem)) (h .sizes) ∙ h .pairs
+    holds-by-pairs bytes at (h .whole) (size-bounds .keyIsThere (kemAt bytes at) (h .kem)) (h .sizes) ∙ h .pairs .0
 
 module _ (kems numbers bytes : List ℕ) (at : ℕ) {rest : List Configuration} (n : GoodNext bytes at rest) where
   -- the next configuration is chosen

@@ -49,7 +49,7 @@ pub fn choose(list: &[u8], kems: &[u16], pairs: &[u16]) -> Chosen
     match check(list) {
         Checked::Good(_) => {
             if pairs.len() % 2 != 0 {
-                return refused(13);
+                return refused(Refusal::WRONG_LENGTH);
             }
             choose_in_good(list, kems, pairs)
         }
@@ -71,7 +71,7 @@ fn choose_in_good(list: &[u8], kems: &[u16], pairs: &[u16]) -> Chosen
         }
         at = at + 2 + (word_at(list, at) as usize);
     }
-    refused(16)
+    refused(Refusal::NO_USABLE_CONFIGURATION)
 }
 
 // The choice where the configuration at an offset is the only one. It keeps the layout's rules, as all of a good list do.
@@ -81,7 +81,7 @@ fn choose_at(list: &[u8], at: usize, kems: &[u16], pairs: &[u16]) -> Chosen
 {
     let place = place_at(list, at);
     if !has_word(kems, place.kem) {
-        return refused(16);
+        return refused(Refusal::NO_USABLE_CONFIGURATION);
     }
     let count = (word_at(list, place.key_end) as usize) / 4;
     match first_usable(list, place.key_end + 2, count, pairs) {
@@ -93,7 +93,7 @@ fn choose_at(list: &[u8], at: usize, kems: &[u16], pairs: &[u16]) -> Chosen
             key_start: place.key_start,
             key_end: place.key_end,
         }),
-        PairFound::Nothing => refused(16),
+        PairFound::Nothing => refused(Refusal::NO_USABLE_CONFIGURATION),
     }
 }
 
@@ -156,5 +156,5 @@ fn are_same(listed_kdf: u16, listed_aead: u16, kdf: u16, aead: u16) -> bool
 fn refused(number: u8) -> Chosen
     ensures { λ r. ⌜ r ≡ Chosen.Refused (refused number) ⌝ }
 {
-    Chosen::Refused(Refusal { number, place: 0 })
+    Chosen::Refused(Refusal::of(number))
 }

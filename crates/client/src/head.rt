@@ -47,7 +47,7 @@ pub fn write(
 {
     let number = refusal(kem, kdf, aead, enc, head.len(), info.len());
     if number != 0 {
-        return Headed::Refused(Refusal { number, place: 0 });
+        return Headed::Refused(Refusal::of(number));
     }
     let front = texts::head(key_id.0, kem.0, kdf.0, aead.0);
     overwrite(head, 0, &front);
@@ -62,19 +62,19 @@ fn refusal(kem: Kem, kdf: Kdf, aead: Aead, enc: &[u8], head_room: usize, info_ro
     ensures { λ r. ⌜ r ≡ headRefusal (kem .0) (kdf .0) (aead .0) (now (enc .entry)) «head_room» «info_room» ⌝ }
 {
     let Size::Bytes(size) = kem.enc_length() else {
-        return 3;
+        return Refusal::UNKNOWN_KEM;
     };
     if !is_known_pair(kdf, aead) {
-        return 6;
+        return Refusal::PAIR_NOT_OFFERED;
     }
     if enc.len() != size {
-        return 13;
+        return Refusal::WRONG_LENGTH;
     }
     if head_room < Kem::HEAD + size {
-        return 14;
+        return Refusal::NO_ROOM;
     }
     if info_room < INFO {
-        return 14;
+        return Refusal::NO_ROOM;
     }
     0
 }

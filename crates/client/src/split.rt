@@ -19,13 +19,13 @@ pub fn check(aead: Aead, response: &[u8]) -> Parts
     ensures { λ r. ⌜ r ≡ splitAnswer (aead .0) (length (now (response .entry))) ⌝ }
 {
     let Size::Bytes(nonce) = aead.response_nonce_length() else {
-        return refused(6);
+        return refused(Refusal::PAIR_NOT_OFFERED);
     };
     if response.len() < nonce + Aead::TAG {
-        return refused(1);
+        return refused(Refusal::TOO_SHORT);
     }
     if nonce + LONGEST_PLAIN + Aead::TAG < response.len() {
-        return refused(2);
+        return refused(Refusal::TOO_LONG);
     }
     Parts::Meet(nonce)
 }
@@ -57,5 +57,5 @@ const LONGEST_PLAIN: usize = 65536;
 fn refused(number: u8) -> Parts
     ensures { λ r. ⌜ r ≡ Parts.Refused (refused number) ⌝ }
 {
-    Parts::Refused(Refusal { number, place: 0 })
+    Parts::Refused(Refusal::of(number))
 }

@@ -1,7 +1,7 @@
 -- When one configuration keeps the layout's rules, and when it does not: one law for each way that the code finds it.
 -- Assumes nothing.
 use mathlib.Core.Path.{_≡_}
-use mathlib.Core.Bool.{true, false}
+use mathlib.Core.Bool.{Bool, true, false}
 use mathlib.Core.List.{List}
 use Prim.Native.Nat.{ℕ, _+_, _%_, _≤_, _<_}
 use native.Mathlib.Omega.{arith}
@@ -66,25 +66,29 @@ module _ (bytes : List ℕ) (at : ℕ) where
           eq-eqb (lengthAt bytes at) (5 + publicKeyLength (kemAt bytes at) + pairBytesAt bytes at) l,
         )
 
+-- what a conjunction of tests says, part by part
+pub both : {a b : Bool} {P Q : Type 0} → (a ≡ true → P) → (b ≡ true → Q) → (a and b) ≡ true → P × Q
+both {a} {b} p q h = (p (and-left a b h), q (and-right a b h))
+
+-- the numbers of S, beside the test
+abbrev pub PairBytes : ℕ → Type 0
+PairBytes size = (pairBytesHold size ≡ true) × ((size % 4 ≡ 0) × ((4 ≤ size) × (size ≤ mostPairBytes)))
+
+pub pair-bytes : (size : ℕ) → pairBytesHold size ≡ true → PairBytes size
+pair-bytes size h = (h, both (eqb-true (size % 4) 0) (both (leb-true 4 size) (leb-true size mostPairBytes)) h)
+
 -- the numbers of a configuration that keeps the rules
 pub record Holds (bytes : List ℕ) (at : ℕ) : Type 0 where
   pub whole : nextStart bytes at ≤ length bytes
   pub kem : knownKem (kemAt bytes at) ≡ true
   pub sizes : lengthAt bytes at ≡ 5 + publicKeyLength (kemAt bytes at) + pairBytesAt bytes at
-  pub pairs : pairBytesHold (pairBytesAt bytes at) ≡ true
+  pub pairs : PairBytes (pairBytesAt bytes at)
 
 pub holds : (bytes : List ℕ) (at : ℕ) → layoutHolds bytes at ≡ true → Holds bytes at
 unfolding layoutHolds
 holds bytes at e =
-    let a = leb (nextStart bytes at) (length bytes) in
-    let b = knownKem (kemAt bytes at) in
-    let d = eqb (lengthAt bytes at) (5 + publicKeyLength (kemAt bytes at) + pairBytesAt bytes at) in
-    let p = pairBytesHold (pairBytesAt bytes at) in
-    record {
-      whole = leb-true (nextStart bytes at) (length bytes) (and-left a (b and d and p) e);
-      kem = and-left b (d and p) (and-right a (b and d and p) e);
-      sizes =
-          eqb-true (lengthAt bytes at) (5 + publicKeyLength (kemAt bytes at) + pairBytesAt bytes at)
-          (and-left d p (and-right b (d and p) (and-right a (b and d and p) e)));
-      pairs = and-right d p (and-right b (d and p) (and-right a (b and d and p) e));
-    }
+    let (whole, (kem, (sizes, pairs))) =
+    both (leb-true (nextStart bytes at) (length bytes))
+    (both (λ known. known)
+    (both (eqb-true (lengthAt bytes at) (5 + publicKeyLength (kemAt bytes at) + pairBytesAt bytes at)) (pair-bytes (pairBytesAt bytes at)))) e in
+    record { whole = whole; kem = kem; sizes = sizes; pairs = pairs }

@@ -3,9 +3,4 @@ pub mod LayoutLaws
 pub mod Parsing
 pub mod Walk
 pub mod Keys
-pub mod Offsets
-pub mod OneConfiguration
-pub mod RoundTrip
-pub mod FieldsWalk
-pub mod Writing
 pub mod Edges

@@ -20,19 +20,12 @@ use wire::refusal::Refusal;
 use wire::search::has_byte;
 
 // The house limits.
-pub(crate) const MOST_CONFIGURATIONS: usize = 16;
+pub const MOST_CONFIGURATIONS: usize = 16;
 
-pub(crate) const MOST_PAIR_BYTES: usize = 64;
-
-// 15, with its place.
-pub(crate) fn bad_list(place: usize) -> Refusal
-    ensures { λ r. ⌜ r ≡ badList place ⌝ }
-{
-    Refusal { number: 15, place }
-}
+pub const MOST_PAIR_BYTES: usize = 64;
 
 // So many pair bytes may be in one configuration.
-pub(crate) fn pair_bytes_hold(size: usize) -> bool
+pub fn pair_bytes_hold(size: usize) -> bool
     ensures { λ r. ⌜ r ≡ pairBytesHold size ⌝ }
 {
     if size % 4 != 0 {
@@ -92,7 +85,7 @@ pub fn check(list: &[u8]) -> Checked
     ensures { λ r. ⌜ r ≡ checked (parse (now (list .entry))) ⌝ }
 {
     if list.len() == 0 {
-        return Checked::Refused(bad_list(0));
+        return Checked::Refused(Refusal::bad_list(0));
     }
     let mut taken = [0u8; MOST_CONFIGURATIONS];
     let mut count = 0;
@@ -115,7 +108,7 @@ fn outcome(whole: bool, count: usize, place: usize) -> Checked
     if whole {
         Checked::Good(count)
     } else {
-        Checked::Refused(bad_list(place))
+        Checked::Refused(Refusal::bad_list(place))
     }
 }
 
@@ -143,7 +136,7 @@ pub fn place_at(list: &[u8], at: usize) -> Place
 }
 
 // Npk, 0 where the KEM is unknown.
-pub(crate) fn key_length(kem: u16) -> usize
+fn key_length(kem: u16) -> usize
     ensures { λ r. ⌜ r ≡ publicKeyLength kem ⌝ }
     ensures bound { λ r. ⌜ r ≤ 133 ⌝ }
 {

@@ -42,8 +42,5 @@ fn find_in_good(list: &[u8], id: u8) -> KeyPlace
         }
         at = place.end;
     }
-    KeyPlace::Refused(Refusal {
-        number: 4,
-        place: 0,
-    })
+    KeyPlace::Refused(Refusal::of(Refusal::NO_SUCH_KEY))
 }

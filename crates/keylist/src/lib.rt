@@ -1,7 +1,6 @@
-// Key lists (01, "Key list"; RFC 9458, 3.1 and 3.2): check, key reader and list writer.
+// Key lists (01, "Key list"; RFC 9458, 3.1 and 3.2): check and key reader.
 pub mod check;
 pub mod key;
-pub mod writer;
 
 use wire::refusal::Refusal;
 
@@ -17,12 +16,6 @@ pub enum Checked {
 // Where a public key starts and ends in its list, or the refusal.
 pub enum KeyPlace {
     Found(usize, usize),
-    Refused(Refusal),
-}
-
-// The length of the list that was written, or the refusal.
-pub enum Written {
-    Length(usize),
     Refused(Refusal),
 }
 

@@ -1,6 +1,6 @@
 -- `client::head::write` meets its contract: the head and its info by the laws of writes at the front, and nothing on refusal.
 -- Assumes nothing.
-use mathlib.Core.Path.{_≡_, _∙_}
+use mathlib.Core.Path.{_≡_, ap, _∙_}
 use Prim.Native.Nat.{_+_, _≤_}
 use native.Mathlib.Omega.{arith}
 use lib.ListN.{length}
@@ -9,6 +9,7 @@ use Rattle.wire.specs.Texts.{requestLabel, infoBytes, headBytes}
 use Rattle.wire.proofs.Writes.{front-first, front-more}
 use Rattle.algorithms.specs.Sizes.{encLength, headLength}
 use Rattle.client.specs.Head.{infoLength}
+use Rattle.client.specs.declared.head.Headed.{Headed}
 use Rattle.client.proofs.Fronts.{headed-refused, unless-refused, head-accepted}
 use Rattle.client.proofs.head.write.Statement.{statement}
 use Rattle.client.proofs.head.write.Tie as tie
@@ -33,13 +34,17 @@ accepted c =
 refusal-requires : tie.Need-refusal-requires
 refusal-requires c κs = search needs
 
+of-requires : tie.Need-of-requires
+of-requires c κs = search needs
+
 returns : tie.Need-returns
 returns c =
-    let a = c .before .before .before .before .before .args in
-    let number = c .before .refusal .result in
-    rw (← c .before .refusal .ensures) (
-      headed-refused number _ (c .if1 .taken),
-      (unless-refused number _ (a .head .now) (c .if1 .taken), unless-refused number _ (a .info .now) (c .if1 .taken)),
+    let a = c .before .before .before .before .before .before .args in
+    let number = c .before .before .refusal .result in
+    let refuses = c .before .if1 .taken in
+    rw (← c .before .before .refusal .ensures) (
+      ap Headed.Refused (c .of .ensures) ∙ headed-refused number _ refuses,
+      (unless-refused number _ (a .head .now) refuses, unless-refused number _ (a .info .now) refuses),
     )
 
 head-requires : tie.Need-head-requires
@@ -98,6 +103,7 @@ write-spec =
     tie.close
     (tie.spec
     refusal-requires
+    of-requires
     returns
     head-requires
     slice-aggregate-overwrite

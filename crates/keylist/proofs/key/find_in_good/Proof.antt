@@ -2,6 +2,7 @@
 -- Assumes nothing.
 use Rattle.keylist.proofs.Keys.{place-inside, found-here, found-later}
 use Rattle.keylist.proofs.Walk.{GoodFrom, walk-start, walk-next, walk-end}
+use Rattle.keylist.specs.declared.KeyPlace.{KeyPlace}
 use Rattle.keylist.specs.declared.Place.{Place}
 use Rattle.keylist.specs.Answers.{keyPlaceIn, firstWithId, placeOf}
 use Rattle.keylist.specs.Layout.{parse, nextStart}
@@ -54,13 +55,17 @@ loop-again c =
     let place : c .before .before .place-at .result ≡ placeOf (a .list .now) (l .at) = c .before .before .place-at .ensures ∙ place-inside (a .list .now) (l .at) (omega arith) in
     rw place (n .next, l .inv .1 ∙ found-later (a .list .now) (l .at) (a .id) n (λ e. c .if1 .left (ap (λ (p : Place). p .«key_id») place ∙ e)), n .holding .whole)
 
+of-requires : tie.Need-of-requires Inv-loop μ-loop
+of-requires c κs = search needs
+
 returns-2 : tie.Need-returns-2 Inv-loop μ-loop
 returns-2 c =
-    let a = c .before .before .before .args in
-    let l = c .before .loop in
-    sym (l .inv .1 ∙ ap (firstWithId (a .id)) (walk-end (a .list .now) (l .at) (l .inv .0) (omega arith)))
+    let a = c .before .before .before .before .args in
+    let l = c .before .before .loop in
+    ap KeyPlace.Refused (c .of .ensures)
+    ∙ sym (l .inv .1 ∙ ap (firstWithId (a .id)) (walk-end (a .list .now) (l .at) (l .inv .0) (omega arith)))
 
 pub find-in-good-spec : {M : Type 1} → statement M
 find-in-good-spec =
     tie.close
-    (tie.spec Inv-loop μ-loop loop-holds place-at-requires returns loop-less loop-again returns-2)
+    (tie.spec Inv-loop μ-loop loop-holds place-at-requires returns loop-less loop-again of-requires returns-2)

@@ -1,0 +1,278 @@
+-- The walk over the fields of the list writer: what the fields from an index on say, and how encoding goes on from there.
+-- Assumes nothing.
+use mathlib.Core.Path.{_≡_, refl, sym, ap, subst, _∙_}
+use mathlib.Core.Bool.{Bool, true, false, not}
+use mathlib.Core.List.{List, [], _∷_, _++_}
+use Prim.Native.Nat.{ℕ, zero, suc, _+_, _-_, _*_, _≤_, _<_}
+use mathlib.Core.Logic.{⊎-elim}
+use native.Mathlib.Nat.{add-zero, eq-or-lt-of-le}
+use native.Mathlib.Numerals.{add-one}
+use native.Mathlib.Omega.{arith}
+use borrow.Author.Tests.{eq-eqb, ne-eqb, leb-true, leb-false}
+use lib.Dec.{eqb, leb}
+use lib.ListN.{length, getD, take, drop, length-drop, length-take, length-append, drop-of-length-le}
+use lib.Seq.{drop-drop, drop-cons, getD-drop, take-suc, take-add, take-append-seam, length-take-le}
+use Rattle.wire.specs.Tests.{pick, _and_}
+use Rattle.wire.specs.Bytes.{overwritten, withFront}
+use Rattle.wire.specs.Search.{among}
+use Rattle.wire.specs.Refusals.{badList}
+use Rattle.wire.proofs.Booleans.{either, and-left}
+use Rattle.wire.proofs.Writes.{front-more}
+use Rattle.wire.proofs.Words.{words-length}
+use Rattle.algorithms.proofs.Stated.{size-bounds}
+use Rattle.listwriter.specs.declared.Written.{Written}
+use Rattle.keylist.specs.Layout.{Outcome, good, bad, mostConfigurations}
+use Rattle.listwriter.specs.Writer.{Fields, fieldsFrom, fieldsHold, firstHolds, firstKem, firstKeyLength, firstPairCount, firstPairs, behindFirst, noneLeft, lengthOf, firstLength, firstBytes, inFrontOf, encodeFrom, encode, lengthWritten}
+use Rattle.keylist.proofs.Parsing.{no-refusal}
+use Rattle.listwriter.proofs.OneConfiguration.{first-says, same-fields}
+
+-- whether anything is left from a place on
+pub left-some : (n : ℕ) (xs : List ℕ) → n < length xs → eqb (length (drop n xs)) 0 ≡ false
+left-some n xs h = rw length-drop (ne-eqb (length xs - n) 0 (omega arith))
+
+pub left-none : (n : ℕ) (xs : List ℕ) → length xs ≤ n → eqb (length (drop n xs)) 0 ≡ true
+left-none n xs h = rw length-drop (eq-eqb (length xs - n) 0 (omega arith))
+
+pub left-test : (n : ℕ) (xs : List ℕ) → leb (length xs) n ≡ eqb (length (drop n xs)) 0
+left-test n xs =
+    either (leb (length xs) n) (λ e. e ∙ sym (left-none n xs (leb-true (length xs) n e)))
+    (λ e. e ∙ sym (left-some n xs (leb-false (length xs) n e)))
+
+-- the first number from an index on
+number-from : (xs : List ℕ) (i : ℕ) → getD (drop i xs) 0 0 ≡ getD xs i 0
+number-from xs i = getD-drop i xs 0 0 ∙ rw add-zero
+
+module _ (f : Fields) (i k p : ℕ) where
+  pub kem-from : firstKem (fieldsFrom f i k p) ≡ getD (f .kems) i 0
+  kem-from = number-from (f .kems) i
+
+  pub key-length-from : firstKeyLength (fieldsFrom f i k p) ≡ getD (f .keyLengths) i 0
+  key-length-from = number-from (f .keyLengths) i
+
+  pub pair-count-from : firstPairCount (fieldsFrom f i k p) ≡ getD (f .pairCounts) i 0
+  pair-count-from = number-from (f .pairCounts) i
+
+  pub holds-from : firstHolds (fieldsFrom f i k p)
+      ≡ fieldsHold (getD (f .kems) i 0) (getD (f .keyLengths) i 0) (length (f .keys) - k) (getD (f .pairCounts) i 0) (length (f .pairs) - p)
+  unfolding firstHolds
+  holds-from = rw (kem-from, key-length-from, pair-count-from, length-drop k (f .keys), length-drop p (f .pairs))
+
+  pub behind-from : behindFirst (fieldsFrom f i k p)
+      ≡ fieldsFrom f (i + 1) (k + getD (f .keyLengths) i 0) (p + getD (f .pairCounts) i 0)
+  behind-from =
+      same-fields (drop-drop 1 i (f .kems)) (drop-drop 1 i (f .keyLengths))
+      (rw key-length-from (drop-drop (getD (f .keyLengths) i 0) k (f .keys)))
+      (drop-drop 1 i (f .pairCounts))
+      (rw pair-count-from (drop-drop (getD (f .pairCounts) i 0) p (f .pairs)))
+
+-- a configuration that holds is as long as its length says
+pub first-size : (id : ℕ) (f : Fields) → firstHolds f ≡ true → length (firstBytes id f) ≡ 2 + firstLength f
+first-size id f h =
+    let (_, (_, (key, (_, pairs)))) = first-says f h in
+    let words = words-length (firstPairs f) in
+    simp (length-append, words-length) (omega arith)
+
+-- the bounds of a configuration that holds
+pub first-bounds : (f : Fields) → firstHolds f ≡ true → (firstKeyLength f ≤ 133) × ((firstPairCount f ≤ 32) × ((firstKeyLength f ≤ length (f .keys)) × (firstPairCount f ≤ length (f .pairs))))
+first-bounds f h =
+    let (_, (size, (key, ((_, (_, (_, most))), pairs)))) = first-says f h in
+    let keys : firstKeyLength f ≤ length (f .keys) = omega (arith, rw length-take at key) in
+    let numbers : firstPairCount f ≤ length (f .pairs) = omega (arith, rw length-take at pairs) in
+    (omega (arith, size-bounds .keyBound (firstKem f)), (omega arith, (keys, numbers)))
+
+-- how encoding goes on
+pub encode-some : (ids : List ℕ) (f : Fields) → 0 < length ids → encode ids f ≡ encodeFrom mostConfigurations [] 0 ids f
+unfolding encode
+encode-some [] f h = absurd (omega arith)
+encode-some (id ∷ ids) f h = refl
+
+pub encode-none : (ids : List ℕ) (f : Fields) → length ids ≡ 0 → encode ids f ≡ bad (badList 0)
+unfolding encode
+encode-none [] f h = refl
+encode-none (id ∷ ids) f h = absurd (omega arith)
+
+module _ (more : ℕ) (taken : List ℕ) (at : ℕ) (ids : List ℕ) (i : ℕ) (f : Fields) where
+  pub encode-end : length ids ≤ i → encodeFrom more taken at (drop i ids) f ≡ pick (noneLeft f) (good []) (bad (badList at))
+  unfolding encodeFrom
+  encode-end h = rw (drop-of-length-le ids h)
+
+  pub encode-too-many : i < length ids → more ≡ 0 → encodeFrom more taken at (drop i ids) f ≡ bad (badList at)
+  unfolding encodeFrom
+  encode-too-many h e = rw (e, drop-cons ids i 0 h)
+
+  pub encode-bad : i < length ids → (firstHolds f and not (among taken (getD ids i 0))) ≡ false
+      → encodeFrom more taken at (drop i ids) f ≡ bad (badList at)
+  unfolding encodeFrom
+  encode-bad h e = rw (drop-cons ids i 0 h) (elim more [ zero ↦ refl | suc n ↦ rw e ])
+
+  pub encode-more : i < length ids → (firstHolds f and not (among taken (getD ids i 0))) ≡ true
+      → encodeFrom (suc more) taken at (drop i ids) f
+      ≡ inFrontOf (firstBytes (getD ids i 0) f)
+      (encodeFrom more (taken ++ getD ids i 0 ∷ []) (at + 2 + firstLength f) (drop (i + 1) ids) (behindFirst f))
+  unfolding encodeFrom
+  encode-more h e = rw (drop-cons ids i 0 h, e, add-one i)
+
+-- the length, with so many bytes before
+unfoldable pub lengthFrom : ℕ → Outcome (List ℕ) → Written
+lengthFrom n (good bytes) = Written.Length (n + length bytes)
+lengthFrom n (bad r) = Written.Refused r
+
+pub length-from-none : (o : Outcome (List ℕ)) → lengthWritten o ≡ lengthFrom 0 o
+unfolding lengthFrom
+length-from-none (good bytes) = ap Written.Length (omega arith)
+length-from-none (bad r) = refl
+
+pub length-from-more : (n : ℕ) (front : List ℕ) (o : Outcome (List ℕ)) → lengthFrom n (inFrontOf front o) ≡ lengthFrom (n + length front) o
+unfolding lengthFrom
+length-from-more n front (good bytes) = ap Written.Length (simp length-append (omega arith))
+length-from-more n front (bad r) = refl
+
+-- where the walk stands: within the fields, and with small numbers
+pub record Within (ids : List ℕ) (f : Fields) (i at k p : ℕ) : Type 0 where
+  pub index : i ≤ length ids
+  pub limit : i ≤ mostConfigurations
+  pub place : at ≤ i * 204
+  pub keyPlace : k ≤ i * 133
+  pub pairPlace : p ≤ i * 32
+  pub keys : k ≤ length (f .keys)
+  pub pairs : p ≤ length (f .pairs)
+
+pub within-start : (ids : List ℕ) (f : Fields) → Within ids f 0 0 0 0
+within-start ids f =
+    record {
+      index = omega arith;
+      limit = omega arith;
+      place = omega arith;
+      keyPlace = omega arith;
+      pairPlace = omega arith;
+      keys = omega arith;
+      pairs = omega arith;
+    }
+
+module _ (ids : List ℕ) (f : Fields) (i at k p : ℕ) (w : Within ids f i at k p) (holding : firstHolds (fieldsFrom f i k p) ≡ true) where
+  -- the bounds of the configuration at the index
+  pub bounds-from : (getD (f .keyLengths) i 0 ≤ 133) × ((getD (f .pairCounts) i 0 ≤ 32)
+      × ((k + getD (f .keyLengths) i 0 ≤ length (f .keys)) × (p + getD (f .pairCounts) i 0 ≤ length (f .pairs))))
+  bounds-from =
+      let (key, (pair, (keys, pairs))) = first-bounds (fieldsFrom f i k p) holding in
+      let keyLength = key-length-from f i k p in
+      let pairCount = pair-count-from f i k p in
+      let keysLeft = rw length-drop at keys in
+      let pairsLeft = rw length-drop at pairs in
+      (omega arith, (omega arith, (omega (arith, w .keys), omega (arith, w .pairs))))
+
+  pub within-next : i < length ids → i < mostConfigurations
+      → Within ids f (i + 1) (at + 2 + lengthOf (getD (f .keyLengths) i 0) (getD (f .pairCounts) i 0))
+      (k + getD (f .keyLengths) i 0) (p + getD (f .pairCounts) i 0)
+  within-next h l =
+      let b = bounds-from in
+      record {
+        index = omega arith;
+        limit = omega arith;
+        place = omega (arith, w .place);
+        keyPlace = omega (arith, w .keyPlace);
+        pairPlace = omega (arith, w .pairPlace);
+        keys = b .1 .1 .0;
+        pairs = b .1 .1 .1;
+      }
+
+-- the encoding from an index on, and the test of the configuration there
+abbrev pub encodeAt : List ℕ → Fields → ℕ → ℕ → ℕ → ℕ → Outcome (List ℕ)
+encodeAt ids f i at k p = encodeFrom (mostConfigurations - i) (take i ids) at (drop i ids) (fieldsFrom f i k p)
+
+abbrev pub writableAt : List ℕ → Fields → ℕ → ℕ → ℕ → Bool
+writableAt ids f i k p = firstHolds (fieldsFrom f i k p) and not (among (take i ids) (getD ids i 0))
+
+module _ (ids : List ℕ) (f : Fields) (i at k p : ℕ) where
+  pub at-too-many : i < length ids → i ≡ mostConfigurations → encodeAt ids f i at k p ≡ bad (badList at)
+  at-too-many h e = encode-too-many (mostConfigurations - i) (take i ids) at ids i (fieldsFrom f i k p) h (omega arith)
+
+  pub at-bad : i < length ids → writableAt ids f i k p ≡ false → encodeAt ids f i at k p ≡ bad (badList at)
+  at-bad h e = encode-bad (mostConfigurations - i) (take i ids) at ids i (fieldsFrom f i k p) h e
+
+  pub at-end : length ids ≤ i → noneLeft (fieldsFrom f i k p) ≡ true → encodeAt ids f i at k p ≡ good []
+  at-end h e = encode-end (mostConfigurations - i) (take i ids) at ids i (fieldsFrom f i k p) h ∙ rw e
+
+  pub at-left-over : length ids ≤ i → noneLeft (fieldsFrom f i k p) ≡ false → encodeAt ids f i at k p ≡ bad (badList at)
+  at-left-over h e = encode-end (mostConfigurations - i) (take i ids) at ids i (fieldsFrom f i k p) h ∙ rw e
+
+  pub at-more : i < length ids → i < mostConfigurations → writableAt ids f i k p ≡ true
+      → encodeAt ids f i at k p
+      ≡ inFrontOf (firstBytes (getD ids i 0) (fieldsFrom f i k p))
+      (encodeAt ids f (i + 1) (at + 2 + lengthOf (getD (f .keyLengths) i 0) (getD (f .pairCounts) i 0))
+      (k + getD (f .keyLengths) i 0) (p + getD (f .pairCounts) i 0))
+  at-more h l e =
+      let fuel : mostConfigurations - i ≡ suc (mostConfigurations - (i + 1)) = omega arith in
+      let ids′ : take (i + 1) ids ≡ take i ids ++ getD ids i 0 ∷ [] = rw (add-one i) (take-suc ids i 0 h) in
+      let size : firstLength (fieldsFrom f i k p) ≡ lengthOf (getD (f .keyLengths) i 0) (getD (f .pairCounts) i 0) =
+      rw (key-length-from f i k p, pair-count-from f i k p) in
+      rw (fuel, ids′, ← behind-from f i k p, ← size) (encode-more (mostConfigurations - (i + 1)) (take i ids) at ids i (fieldsFrom f i k p) h e)
+
+  pub at-size : firstHolds (fieldsFrom f i k p) ≡ true → (id : ℕ)
+      → length (firstBytes id (fieldsFrom f i k p)) ≡ 2 + lengthOf (getD (f .keyLengths) i 0) (getD (f .pairCounts) i 0)
+  at-size h id = rw (← key-length-from f i k p, ← pair-count-from f i k p) (first-size id (fieldsFrom f i k p) h)
+
+  pub length-more : i < length ids → i < mostConfigurations → writableAt ids f i k p ≡ true
+      → lengthFrom at (encodeAt ids f i at k p)
+      ≡ lengthFrom (at + 2 + lengthOf (getD (f .keyLengths) i 0) (getD (f .pairCounts) i 0))
+      (encodeAt ids f (i + 1) (at + 2 + lengthOf (getD (f .keyLengths) i 0) (getD (f .pairCounts) i 0))
+      (k + getD (f .keyLengths) i 0) (p + getD (f .pairCounts) i 0))
+  length-more h l e =
+      let front = firstBytes (getD ids i 0) (fieldsFrom f i k p) in
+      let next = at + 2 + lengthOf (getD (f .keyLengths) i 0) (getD (f .pairCounts) i 0) in
+      let rest = encodeAt ids f (i + 1) next (k + getD (f .keyLengths) i 0) (p + getD (f .pairCounts) i 0) in
+      let size = at-size (and-left (firstHolds (fieldsFrom f i k p)) (not (among (take i ids) (getD ids i 0))) e) (getD ids i 0) in
+      let sum : at + length front ≡ next = rw size (omega arith) in
+      ap (lengthFrom at) (at-more h l e) ∙ length-from-more at front rest ∙ ap (λ (n : ℕ). lengthFrom n rest) sum
+
+-- where encoding goes well and a configuration is left, its test passed and the bytes behind it are those of the others
+pub record MoreGood (ids : List ℕ) (f : Fields) (i at k p : ℕ) (bytes : List ℕ) : Type 0 where
+  pub limit : i < mostConfigurations
+  pub writable : writableAt ids f i k p ≡ true
+  pub rest : List ℕ
+  pub encoded :
+      encodeAt ids f (i + 1) (at + 2 + lengthOf (getD (f .keyLengths) i 0) (getD (f .pairCounts) i 0))
+      (k + getD (f .keyLengths) i 0) (p + getD (f .pairCounts) i 0) ≡ good rest
+  pub split : bytes ≡ firstBytes (getD ids i 0) (fieldsFrom f i k p) ++ rest
+
+front-split : (front : List ℕ) (o : Outcome (List ℕ)) (bytes : List ℕ) → inFrontOf front o ≡ good bytes
+    → (rest : List ℕ) × (o ≡ good rest) × (bytes ≡ front ++ rest)
+front-split front (good rest) bytes e = (rest, refl, cc)
+front-split front (bad r) bytes e = no-refusal e
+
+module _ (ids : List ℕ) (f : Fields) (i at k p : ℕ) (bytes : List ℕ) (e : encodeAt ids f i at k p ≡ good bytes) where
+  pub more-good : i < length ids → i ≤ mostConfigurations → MoreGood ids f i at k p bytes
+  more-good h l =
+      let below : i < mostConfigurations =
+      ⊎-elim (λ z. no-refusal (sym (at-too-many ids f i at k p h z) ∙ e)) (λ b. b) (eq-or-lt-of-le l) in
+      let passes : writableAt ids f i k p ≡ true =
+      either (writableAt ids f i k p) (λ t. t) (λ t. no-refusal (sym (at-bad ids f i at k p h t) ∙ e)) in
+      let s =
+      front-split (firstBytes (getD ids i 0) (fieldsFrom f i k p))
+      (encodeAt ids f (i + 1) (at + 2 + lengthOf (getD (f .keyLengths) i 0) (getD (f .pairCounts) i 0))
+      (k + getD (f .keyLengths) i 0) (p + getD (f .pairCounts) i 0)) bytes (sym (at-more ids f i at k p h below passes) ∙ e) in
+      record { limit = below; writable = passes; rest = s .0; encoded = s .1; split = s .2 }
+
+  pub end-good : length ids ≤ i → bytes ≡ []
+  end-good h =
+      either (noneLeft (fieldsFrom f i k p))
+      (λ t. let z : good [] ≡ good bytes = sym (at-end ids f i at k p h t) ∙ e in cc)
+      (λ t. no-refusal (sym (at-left-over ids f i at k p h t) ∙ e))
+
+-- one more configuration at the front of the buffer
+pub written-more : (bytes buffer : List ℕ) (at : ℕ) (front rest : List ℕ) → drop at bytes ≡ front ++ rest → at ≤ length bytes
+    → length bytes ≤ length buffer
+    → overwritten (withFront (take at bytes) buffer) at front ≡ withFront (take (at + length front) bytes) buffer
+written-more bytes buffer at front rest e h l =
+    let size : length (take at bytes) ≡ at = length-take-le at bytes h in
+    let room : at + length front ≤ length bytes = omega (arith, simp (length-drop, length-append) at (ap length e)) in
+    let more : take (at + length front) bytes ≡ take at bytes ++ front =
+    take-add at (length front) bytes ∙ rw (e, take-append-seam front rest) in
+    rw more (subst (λ (n : ℕ). overwritten (withFront (take at bytes) buffer) n front ≡ withFront (take at bytes ++ front) buffer) size
+    (front-more (take at bytes) front buffer (omega arith)))
+
+-- an encoding that goes well is of some key ids
+pub some-ids : (ids : List ℕ) (f : Fields) (bytes : List ℕ) → encode ids f ≡ good bytes → 0 < length ids
+unfolding encode
+some-ids [] f bytes e = no-refusal e
+some-ids (id ∷ ids) f bytes e = omega arith
