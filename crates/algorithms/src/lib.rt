@@ -176,7 +176,7 @@ pub struct Aead(pub u16);
 
 impl Kem {
     // The bytes of a request before enc: key id, KEM, KDF, AEAD.
-    pub const HEAD: usize = 7;
+    pub const HEAD_LENGTH: usize = 7;
 
     fn row(self) -> Row
         ensures { λ r. ⌜ r ≡ rowOf kemKind (self .0) ⌝ }
@@ -205,7 +205,7 @@ impl Kem {
         ensures { λ r. ⌜ r ≡ sizeOf (knownKem (self .0)) (shortestRequest (self .0)) ⌝ }
     {
         let row = self.row();
-        row.size(Kem::HEAD + (row.enc as usize) + Aead::TAG)
+        row.size(Kem::HEAD_LENGTH + (row.enc as usize) + Aead::TAG_LENGTH)
     }
 }
 
@@ -226,9 +226,9 @@ impl Kdf {
 
 impl Aead {
     // The length of the tag.
-    pub const TAG: usize = 16;
+    pub const TAG_LENGTH: usize = 16;
     // Nn: the length of a nonce.
-    pub const NONCE: usize = 12;
+    pub const NONCE_LENGTH: usize = 12;
 
     fn row(self) -> Row
         ensures { λ r. ⌜ r ≡ rowOf aeadKind (self .0) ⌝ }
@@ -256,7 +256,7 @@ impl Aead {
         ensures { λ r. ⌜ r ≡ sizeOf (knownAead (self .0)) (responseNonceLength (self .0)) ⌝ }
     {
         let row = self.row();
-        row.size(larger(Aead::NONCE, row.key as usize))
+        row.size(larger(Aead::NONCE_LENGTH, row.key as usize))
     }
 
     // The length of the secret that is exported for the response: that of the response nonce.

@@ -52,7 +52,7 @@ module _ (kems numbers bytes : List ℕ) (at : ℕ) where
       → pairFound numbers (pairsHere bytes at) ≡ PairFound.Pair kdf aead
       → chosenHere ≡ Chosen.Usable
       (record {
-        «key_id» = keyIdAt bytes at;
+        «key_id» = record { 0 = keyIdAt bytes at };
         kem = kemAt bytes at;
         kdf = kdf;
         aead = aead;

@@ -12,7 +12,8 @@ use Rattle.wire.specs.Refusals.{refused}
 use Rattle.wire.proofs.Booleans.{either, and-left, and-right}
 use Rattle.algorithms.specs.Sizes.{knownKem, knownPair, encLength, headLength}
 use Rattle.client.specs.declared.head.Headed.{Headed}
-use Rattle.client.specs.Head.{infoLength, headRefusal, headed, unlessRefused}
+use Rattle.client.specs.Head.{headRefusal, headed, unlessRefused}
+use Rattle.wire.specs.Texts.{infoLength}
 
 pub headed-refused : (n length : ℕ) → (n ≡ 0 → ⊥) → Headed.Refused (refused n) ≡ headed n length
 headed-refused zero length h = absurd (h refl)

@@ -53,7 +53,7 @@ pairFound numbers pairs = pairAnswer (anyPasses (usablePair numbers) pairs) (fir
 abbrev pub choice : Configuration → Pair → Choice
 choice c p =
     record {
-      «key_id» = c .keyId;
+      «key_id» = record { 0 = c .keyId };
       kem = c .kem;
       kdf = p .kdf;
       aead = p .aead;

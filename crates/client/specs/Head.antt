@@ -7,12 +7,9 @@ use lib.ListN.{length}
 use Rattle.wire.specs.Tests.{_and_}
 use Rattle.wire.specs.Bytes.{withFront}
 use Rattle.wire.specs.Refusals.{_when_otherwise_, refused}
+use Rattle.wire.specs.Texts.{infoLength}
 use Rattle.algorithms.specs.Sizes.{knownKem, knownPair, encLength, headLength}
 use Rattle.client.specs.declared.head.Headed.{Headed}
-
--- the length of info
-abbrev pub infoLength : ℕ
-infoLength = 29
 
 -- 01, "Order", head; 0: no refusal
 unfoldable pub headRefusal : ℕ → ℕ → ℕ → List ℕ → ℕ → ℕ → ℕ

@@ -15,6 +15,7 @@ use algorithms::Aead;
 use algorithms::Kdf;
 use algorithms::is_known_pair;
 use keylist::Checked;
+use keylist::KeyId;
 use keylist::check::check;
 use keylist::check::place_at;
 use wire::bytes::word_at;
@@ -23,7 +24,7 @@ use wire::search::has_word;
 
 // What was chosen, and where the public key starts and ends in the list.
 pub struct Choice {
-    pub key_id: u8,
+    pub key_id: KeyId,
     pub kem: u16,
     pub kdf: u16,
     pub aead: u16,
@@ -86,7 +87,7 @@ fn choose_at(list: &[u8], at: usize, kems: &[u16], pairs: &[u16]) -> Chosen
     let count = (word_at(list, place.key_end) as usize) / 4;
     match first_usable(list, place.key_end + 2, count, pairs) {
         PairFound::Pair(kdf, aead) => Chosen::Usable(Choice {
-            key_id: place.key_id,
+            key_id: KeyId(place.key_id),
             kem: place.kem,
             kdf,
             aead,

@@ -22,9 +22,6 @@ pub enum Headed {
     Refused(Refusal),
 }
 
-// The length of info.
-const INFO: usize = 29;
-
 // Writes the head of a request and its info, each at the front of its buffer, or refuses and writes nothing.
 pub fn write(
     key_id: KeyId,
@@ -51,10 +48,10 @@ pub fn write(
     }
     let front = texts::head(key_id.0, kem.0, kdf.0, aead.0);
     overwrite(head, 0, &front);
-    overwrite(head, Kem::HEAD, enc);
+    overwrite(head, Kem::HEAD_LENGTH, enc);
     let context = texts::info(front);
     overwrite(info, 0, &context);
-    Headed::Length(Kem::HEAD + enc.len())
+    Headed::Length(Kem::HEAD_LENGTH + enc.len())
 }
 
 // The number of the first refusal that applies, 0 where none does.
@@ -70,10 +67,10 @@ fn refusal(kem: Kem, kdf: Kdf, aead: Aead, enc: &[u8], head_room: usize, info_ro
     if enc.len() != size {
         return Refusal::WRONG_LENGTH;
     }
-    if head_room < Kem::HEAD + size {
+    if head_room < Kem::HEAD_LENGTH + size {
         return Refusal::NO_ROOM;
     }
-    if info_room < INFO {
+    if info_room < texts::INFO_LENGTH {
         return Refusal::NO_ROOM;
     }
     0

@@ -21,10 +21,10 @@ pub fn check(aead: Aead, response: &[u8]) -> Parts
     let Size::Bytes(nonce) = aead.response_nonce_length() else {
         return refused(Refusal::PAIR_NOT_OFFERED);
     };
-    if response.len() < nonce + Aead::TAG {
+    if response.len() < nonce + Aead::TAG_LENGTH {
         return refused(Refusal::TOO_SHORT);
     }
-    if nonce + LONGEST_PLAIN + Aead::TAG < response.len() {
+    if nonce + LONGEST_PLAIN + Aead::TAG_LENGTH < response.len() {
         return refused(Refusal::TOO_LONG);
     }
     Parts::Meet(nonce)

@@ -1,5 +1,5 @@
-// List writer (01, "List writer"): writes key lists. Configurations are given as slices: key ids, KEMs, public key lengths, the key bytes of all, how many pair
-// numbers each has, and the pair numbers of all, KDF and AEAD by turns.
+// List writer (01, "List writer"): key lists from configurations that are given as slices: key ids, KEMs, public key lengths, the
+// key bytes of all, how many pair numbers each has, and the pair numbers of all, KDF and AEAD by turns.
 ghost use mathlib.Core.Path.{_≡_};
 ghost use Prim.Native.Nat.{_+_, _*_, _≤_, _<_};
 ghost use mathlib.Core.Bool.{not};
@@ -7,7 +7,8 @@ ghost use lib.ListN.{length, getD, take};
 ghost use Rattle.wire.specs.Tests.{_and_};
 ghost use Rattle.wire.specs.Search.{among};
 ghost use Rattle.wire.specs.Bytes.{overwritten, wordsBytes};
-ghost use Rattle.listwriter.specs.Writer.{fieldsHold, lengthOf, firstHolds, noneLeft, fieldsFrom, configurationBytes, encode, lengthWritten, writtenIn, writtenTo, fields, Fitting};
+ghost use Rattle.listwriter.specs.Writer.{fields, fieldsFrom, fieldsHold, firstHolds, noneLeft, lengthOf, configurationBytes};
+ghost use Rattle.listwriter.specs.Writer.{encode, lengthWritten, writtenIn, writtenTo, Fitting};
 use algorithms::Kem;
 use algorithms::Size;
 use keylist::check::MOST_CONFIGURATIONS;
@@ -23,12 +24,14 @@ pub enum Written {
     Refused(Refusal),
 }
 
+// The number at an index, 0 where there is none.
 fn number_at(numbers: &[usize], at: usize) -> usize
     ensures { λ r. ⌜ r ≡ getD (now (numbers .entry)) at 0 ⌝ }
 {
     if at < numbers.len() { numbers[at] } else { 0 }
 }
 
+// The KEM at an index, 0 where there is none.
 fn kem_at(kems: &[u16], at: usize) -> u16
     ensures { λ r. ⌜ r ≡ getD (now (kems .entry)) at 0 ⌝ }
 {
@@ -48,6 +51,7 @@ fn fields_hold(kem: u16, key: usize, keys_left: usize, pair_count: usize, pairs_
     if keys_left < key {
         return false;
     }
+    // This bound comes first, so that the product behind it cannot wrap.
     if MOST_PAIR_BYTES < pair_count {
         return false;
     }
@@ -76,8 +80,10 @@ fn write_words(buffer: &mut [u8], at: usize, words: &[u16])
 
 // One configuration from an offset of a buffer that has room for it.
 fn write_configuration(buffer: &mut [u8], at: usize, id: u8, kem: u16, key: &[u8], pairs: &[u16])
-    requires { ⌜ (length (now key) ≤ 133) × (length (now pairs) ≤ 32) × (at + 7 + length (now key) + length (now pairs) * 2 ≤ length (now buffer)) ⌝ }
-    ensures { λ r. ⌜ now (buffer .exit) ≡ overwritten (now (buffer .entry)) at (configurationBytes id kem (length (now (key .entry))) (now (key .entry)) (length (now (pairs .entry))) (now (pairs .entry))) ⌝ }
+    requires { ⌜ (length (now key) ≤ 133) × (length (now pairs) ≤ 32)
+        × (at + 7 + length (now key) + length (now pairs) * 2 ≤ length (now buffer)) ⌝ }
+    ensures { λ r. ⌜ now (buffer .exit) ≡ overwritten (now (buffer .entry)) at
+        (configurationBytes id kem (length (now (key .entry))) (now (key .entry)) (length (now (pairs .entry))) (now (pairs .entry))) ⌝ }
 {
     let pair_bytes = pairs.len() * 2;
     let length = 5 + key.len() + pair_bytes;
@@ -121,8 +127,10 @@ impl Cursor {
 
     // The cursor behind a configuration with so many key bytes and pair numbers.
     fn next(self, key: usize, pair_count: usize) -> Self
-        requires { ⌜ (self .index < 16) × (self .at ≤ 4096) × (self .«key_at» ≤ 4096) × (self .«pair_at» ≤ 4096) × (key ≤ 133) × («pair_count» ≤ 32) ⌝ }
-        ensures { λ r. ⌜ (r .index ≡ self .index + 1) × (r .at ≡ self .at + 2 + lengthOf key «pair_count») × (r .«key_at» ≡ self .«key_at» + key) × (r .«pair_at» ≡ self .«pair_at» + «pair_count») ⌝ }
+        requires { ⌜ (self .index < 16) × (self .at ≤ 4096) × (self .«key_at» ≤ 4096) × (self .«pair_at» ≤ 4096)
+            × (key ≤ 133) × («pair_count» ≤ 32) ⌝ }
+        ensures { λ r. ⌜ (r .index ≡ self .index + 1) × (r .at ≡ self .at + 2 + lengthOf key «pair_count»)
+            × (r .«key_at» ≡ self .«key_at» + key) × (r .«pair_at» ≡ self .«pair_at» + «pair_count») ⌝ }
     {
         Cursor {
             index: self.index + 1,
@@ -143,8 +151,12 @@ fn is_writable(
     pairs: &[u16],
     cursor: Cursor,
 ) -> bool
-    requires { ⌜ (cursor .index < length (now ids)) × (cursor .«key_at» ≤ length (now keys)) × (cursor .«pair_at» ≤ length (now pairs)) ⌝ }
-    ensures { λ r. ⌜ r ≡ (firstHolds (fieldsFrom (fields (now (kems .entry)) (now («key_lengths» .entry)) (now (keys .entry)) (now («pair_counts» .entry)) (now (pairs .entry))) (cursor .index) (cursor .«key_at») (cursor .«pair_at»)) and not (among (take (cursor .index) (now (ids .entry))) (getD (now (ids .entry)) (cursor .index) 0))) ⌝ }
+    requires { ⌜ (cursor .index < length (now ids)) × (cursor .«key_at» ≤ length (now keys))
+        × (cursor .«pair_at» ≤ length (now pairs)) ⌝ }
+    ensures { λ r. ⌜ r ≡ (firstHolds (fieldsFrom
+        (fields (now (kems .entry)) (now («key_lengths» .entry)) (now (keys .entry)) (now («pair_counts» .entry)) (now (pairs .entry)))
+        (cursor .index) (cursor .«key_at») (cursor .«pair_at»))
+        and not (among (take (cursor .index) (now (ids .entry))) (getD (now (ids .entry)) (cursor .index) 0))) ⌝ }
 {
     let index = cursor.index;
     let key = number_at(key_lengths, index);
@@ -166,7 +178,9 @@ fn none_left(
     pairs: &[u16],
     cursor: Cursor,
 ) -> bool
-    ensures { λ r. ⌜ r ≡ noneLeft (fieldsFrom (fields (now (kems .entry)) (now («key_lengths» .entry)) (now (keys .entry)) (now («pair_counts» .entry)) (now (pairs .entry))) (cursor .index) (cursor .«key_at») (cursor .«pair_at»)) ⌝ }
+    ensures { λ r. ⌜ r ≡ noneLeft (fieldsFrom
+        (fields (now (kems .entry)) (now («key_lengths» .entry)) (now (keys .entry)) (now («pair_counts» .entry)) (now (pairs .entry)))
+        (cursor .index) (cursor .«key_at») (cursor .«pair_at»)) ⌝ }
 {
     if cursor.index < kems.len() {
         return false;
@@ -192,7 +206,8 @@ fn list_length(
     pair_counts: &[usize],
     pairs: &[u16],
 ) -> Written
-    ensures { λ r. ⌜ r ≡ lengthWritten (encode (now (ids .entry)) (fields (now (kems .entry)) (now («key_lengths» .entry)) (now (keys .entry)) (now («pair_counts» .entry)) (now (pairs .entry)))) ⌝ }
+    ensures { λ r. ⌜ r ≡ lengthWritten (encode (now (ids .entry))
+        (fields (now (kems .entry)) (now («key_lengths» .entry)) (now (keys .entry)) (now («pair_counts» .entry)) (now (pairs .entry)))) ⌝ }
 {
     if ids.len() == 0 {
         return Written::Refused(Refusal::bad_list(0));
@@ -225,8 +240,11 @@ fn write_all(
     pairs: &[u16],
     buffer: &mut [u8],
 )
-    requires { ⌜ Fitting (encode (now ids) (fields (now kems) (now «key_lengths») (now keys) (now «pair_counts») (now pairs))) (length (now buffer)) ⌝ }
-    ensures { λ r. ⌜ now (buffer .exit) ≡ writtenTo (now (buffer .entry)) (encode (now (ids .entry)) (fields (now (kems .entry)) (now («key_lengths» .entry)) (now (keys .entry)) (now («pair_counts» .entry)) (now (pairs .entry)))) ⌝ }
+    requires { ⌜ Fitting
+        (encode (now ids) (fields (now kems) (now «key_lengths») (now keys) (now «pair_counts») (now pairs)))
+        (length (now buffer)) ⌝ }
+    ensures { λ r. ⌜ now (buffer .exit) ≡ writtenTo (now (buffer .entry)) (encode (now (ids .entry))
+        (fields (now (kems .entry)) (now («key_lengths» .entry)) (now (keys .entry)) (now («pair_counts» .entry)) (now (pairs .entry)))) ⌝ }
 {
     let mut cursor = Cursor::start();
     while cursor.index < ids.len() {
@@ -257,8 +275,10 @@ pub fn write(
     pairs: &[u16],
     buffer: &mut [u8],
 ) -> Written
-    ensures { λ r. ⌜ r ≡ writtenIn (length (now (buffer .entry))) (encode (now (ids .entry)) (fields (now (kems .entry)) (now («key_lengths» .entry)) (now (keys .entry)) (now («pair_counts» .entry)) (now (pairs .entry)))) ⌝ }
-    ensures { λ r. ⌜ now (buffer .exit) ≡ writtenTo (now (buffer .entry)) (encode (now (ids .entry)) (fields (now (kems .entry)) (now («key_lengths» .entry)) (now (keys .entry)) (now («pair_counts» .entry)) (now (pairs .entry)))) ⌝ }
+    ensures { λ r. ⌜ r ≡ writtenIn (length (now (buffer .entry))) (encode (now (ids .entry))
+        (fields (now (kems .entry)) (now («key_lengths» .entry)) (now (keys .entry)) (now («pair_counts» .entry)) (now (pairs .entry)))) ⌝ }
+    ensures { λ r. ⌜ now (buffer .exit) ≡ writtenTo (now (buffer .entry)) (encode (now (ids .entry))
+        (fields (now (kems .entry)) (now («key_lengths» .entry)) (now (keys .entry)) (now («pair_counts» .entry)) (now (pairs .entry)))) ⌝ }
 {
     match list_length(ids, kems, key_lengths, keys, pair_counts, pairs) {
         Written::Length(length) => {

@@ -19,6 +19,10 @@ unfoldable pub requestLabel : List ℕ
 unfolding ascii
 requestLabel = ascii "message/bhttp request" ++ 0 ∷ []
 
+-- the length of info
+abbrev pub infoLength : ℕ
+infoLength = 29
+
 -- info, of the request's first 7 bytes
 abbrev pub infoBytes : List ℕ → List ℕ
 infoBytes head = requestLabel ++ head

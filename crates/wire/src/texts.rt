@@ -3,6 +3,9 @@ ghost use mathlib.Core.Path.{_≡_};
 ghost use Rattle.wire.specs.Texts.{headBytes, infoBytes, exporterContext};
 use crate::bytes::overwrite;
 
+// The length of info.
+pub const INFO_LENGTH: usize = 29;
+
 // The 21 bytes `message/bhttp request` and a zero byte.
 const REQUEST_LABEL: [u8; 22] = *b"message/bhttp request\0";
 
@@ -29,10 +32,10 @@ pub fn head(key_id: u8, kem: u16, kdf: u16, aead: u16) -> [u8; 7]
 }
 
 // Info, of the first 7 bytes of a request.
-pub fn info(head: [u8; 7]) -> [u8; 29]
+pub fn info(head: [u8; 7]) -> [u8; INFO_LENGTH]
     ensures { λ r. ⌜ r ≡ infoBytes head ⌝ }
 {
-    let mut info = [0u8; 29];
+    let mut info = [0u8; INFO_LENGTH];
     overwrite(&mut info, 0, &REQUEST_LABEL);
     overwrite(&mut info, 22, &head);
     info

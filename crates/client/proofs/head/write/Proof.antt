@@ -5,10 +5,9 @@ use Prim.Native.Nat.{_+_, _≤_}
 use native.Mathlib.Omega.{arith}
 use lib.ListN.{length}
 use borrow.Author.Needs.{needs}
-use Rattle.wire.specs.Texts.{requestLabel, infoBytes, headBytes}
+use Rattle.wire.specs.Texts.{requestLabel, infoBytes, headBytes, infoLength}
 use Rattle.wire.proofs.Writes.{front-first, front-more}
 use Rattle.algorithms.specs.Sizes.{encLength, headLength}
-use Rattle.client.specs.Head.{infoLength}
 use Rattle.client.specs.declared.head.Headed.{Headed}
 use Rattle.client.proofs.Fronts.{headed-refused, unless-refused, head-accepted}
 use Rattle.client.proofs.head.write.Statement.{statement}
