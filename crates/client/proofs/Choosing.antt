@@ -11,6 +11,7 @@ use lib.ListN.{length}
 use Rattle.wire.specs.Search.{anyPasses, among}
 use Rattle.wire.specs.Refusals.{refused}
 use Rattle.wire.specs.declared.refusal.Refusal.{Refusal}
+use Rattle.wire.proofs.Matches.{any-first}
 use Rattle.wire.proofs.Booleans.{either, true-or-false, and-left, and-right, and-false}
 use Rattle.algorithms.specs.Sizes.{knownKem, knownPair}
 use Rattle.algorithms.proofs.Stated.{size-bounds}
@@ -21,7 +22,7 @@ use Rattle.client.specs.declared.choose.Choice.{Choice}
 use Rattle.client.specs.declared.choose.Chosen.{Chosen}
 use Rattle.client.specs.declared.choose.PairFound.{PairFound}
 use Rattle.client.specs.Choose.{listed, usablePair, usable, firstUsable, pairFound, choice, chooseFirst, chooseFrom, CanUse, IsRefused, ChosenIsUsable}
-use Rattle.client.proofs.Pairs.{pair-there, none-there, listed-place, any-first}
+use Rattle.client.proofs.Pairs.{pair-there, none-there, listed-place}
 
 -- the pairs of the configuration at an offset
 abbrev pub pairsHere : List ℕ → ℕ → List Pair

@@ -85,10 +85,3 @@ listed-place (a ∷ b ∷ numbers) p e =
     let two : suc (w .0) * 2 ≡ suc (suc (w .0 * 2)) = omega arith in
     let three : suc (w .0) * 2 + 1 ≡ suc (suc (w .0 * 2 + 1)) = omega arith in
     (suc (w .0), omega arith, rw two (w .2), rw three (w .3)))
-
--- the first element that passes does pass
-pub any-first : {A : Type 0} (default : A) (test : A → Bool) (xs : List A) → anyPasses test xs ≡ true
-    → test (getD xs (firstPlace test xs) default) ≡ true
-unfolding anyPasses firstPlace
-any-first default test [] e = absurd (true-or-false e refl)
-any-first default test (x ∷ xs) e = either (test x) (λ h. rw h h) (λ h. rw h (any-first default test xs (rw h at e)))

@@ -10,7 +10,7 @@ use borrow.Author.Tests.{eq-eqb, ne-eqb}
 use lib.Dec.{eqb}
 use lib.ListN.{length, getD}
 use Rattle.wire.specs.Tests.{pick}
-use Rattle.wire.proofs.Booleans.{either}
+use Rattle.wire.proofs.Booleans.{either, true-or-false}
 use Rattle.wire.specs.Search.{firstPlace, anyPasses, among}
 
 later : (b : Bool) {rest : Bool} → rest ≡ true → pick b true rest ≡ true
@@ -41,6 +41,12 @@ module _ {A : Type 0} (default : A) (test : A → Bool) where
   first-passes [] h = absurd (not-suc-le-zero h)
   first-passes (x ∷ xs) h =
       either (test x) (λ e. rw e e) (λ e. rw e (first-passes xs (le-of-suc-le-suc (rw e at h))))
+
+  -- where some element passes, the first match does
+  pub any-first : (xs : List A) → anyPasses test xs ≡ true → test (getD xs (firstPlace test xs) default) ≡ true
+  unfolding anyPasses firstPlace
+  any-first [] e = absurd (true-or-false e refl)
+  any-first (x ∷ xs) e = either (test x) (λ h. rw h h) (λ h. rw h (any-first xs (rw h at e)))
 
   pub any-at : (xs : List A) (k : ℕ) → k < length xs → test (getD xs k default) ≡ true → anyPasses test xs ≡ true
   unfolding anyPasses

@@ -1,4 +1,5 @@
--- `algorithms::row_of` meets its contract.
+-- `algorithms::row_of` meets its contract. The loop's invariant: none of the rows passed is the one sought. The table of the code is
+-- that of the definition, row by row, by computation.
 -- Assumes nothing.
 use borrow.Author.Count.{below-none, below-more}
 use mathlib.Core.Bool.{true, false}

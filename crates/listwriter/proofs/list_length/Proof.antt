@@ -1,4 +1,5 @@
--- `listwriter::list_length` meets its contract.
+-- `listwriter::list_length` meets its contract. The loop's invariant: the answer is the offset and what the fields from the cursor on
+-- encode to. The measure is how many key ids are left.
 -- Assumes nothing.
 use Rattle.listwriter.proofs.FieldsWalk.{length-more, encodeAt, writableAt, at-too-many, at-bad, at-end, at-left-over, lengthFrom, length-from-none, Within, within-start, within-next, bounds-from, encode-some, encode-none}
 use Rattle.wire.specs.Search.{among}

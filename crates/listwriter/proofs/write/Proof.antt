@@ -1,4 +1,4 @@
--- `listwriter::write` meets its contract.
+-- `listwriter::write` meets its contract: the first walk answers the length, which is held against the buffer before anything is written.
 -- Assumes nothing.
 use Rattle.listwriter.proofs.Writing.{answer-refused, answer-no-room, answer-room}
 use Rattle.listwriter.specs.Writer.{fields, encode}

@@ -1,4 +1,5 @@
--- `listwriter::write_all` meets its contract.
+-- `listwriter::write_all` meets its contract. The loop's invariant is `Writing`: the list up to the offset stands at the buffer's front.
+-- The measure is how many key ids are left.
 -- Assumes nothing.
 use Rattle.wire.specs.Bytes.{overwritten}
 use lib.ListN.{length-take, length-drop, length, getD}

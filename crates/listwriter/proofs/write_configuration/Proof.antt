@@ -1,4 +1,4 @@
--- `listwriter::write_configuration` meets its contract.
+-- `listwriter::write_configuration` meets its contract: four writes, one behind the other, are one.
 -- Assumes nothing.
 use Rattle.listwriter.specs.Writer.{lengthOf}
 use Rattle.wire.proofs.Writes.{overwritten-four}

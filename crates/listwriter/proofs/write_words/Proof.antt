@@ -1,4 +1,4 @@
--- `listwriter::write_words` meets its contract.
+-- `listwriter::write_words` meets its contract. The loop's invariant: so many numbers stand in the buffer from the offset on.
 -- Assumes nothing.
 use mathlib.Core.List.{List}
 use lib.Seq.{take-all, length-take-le}

@@ -1,4 +1,5 @@
--- `keylist::check::check` meets its contract.
+-- `keylist::check::check` meets its contract. The loop's invariant: the answer is that of reading on from the offset, with as many
+-- configurations before it as were counted and their key ids taken. The measure is what is left of the list.
 -- Assumes nothing.
 use Rattle.wire.specs.Tests.{_and_}
 use Rattle.wire.specs.Search.{among}

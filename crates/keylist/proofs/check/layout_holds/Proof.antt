@@ -1,4 +1,4 @@
--- `keylist::check::layout_holds` meets its contract.
+-- `keylist::check::layout_holds` meets its contract: each return is one law about the definition.
 -- Assumes nothing.
 use Rattle.keylist.specs.Layout.{kemAt, pairBytesAt, pairBytesHold}
 use Rattle.algorithms.specs.Sizes.{publicKeyLength}

@@ -1,4 +1,5 @@
--- `keylist::key::find_in_good` meets its contract.
+-- `keylist::key::find_in_good` meets its contract. The loop's invariant: the key is sought among the configurations that are left of
+-- a good list. The measure is what is left of the list.
 -- Assumes nothing.
 use Rattle.keylist.proofs.Keys.{place-inside, found-here, found-later}
 use Rattle.keylist.proofs.Walk.{GoodFrom, walk-start, walk-next, walk-end}

@@ -1,4 +1,4 @@
--- `keylist::key::read` meets its contract.
+-- `keylist::key::read` meets its contract: what was found lies in the list.
 -- Assumes nothing.
 use Rattle.keylist.specs.Answers.{keyPart}
 use Rattle.keylist.proofs.Keys.{found-inside}

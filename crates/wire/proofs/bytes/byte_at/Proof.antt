@@ -1,4 +1,4 @@
--- `wire::bytes::byte_at` meets its contract.
+-- `wire::bytes::byte_at` meets its contract: past the end the definition's read gives its default.
 -- Assumes nothing.
 use lib.ListN.{List·getD-eq-default}
 use mathlib.Core.Path.{sym}

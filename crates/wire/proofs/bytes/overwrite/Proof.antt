@@ -1,4 +1,5 @@
--- `wire::bytes::overwrite` meets its contract.
+-- `wire::bytes::overwrite` meets its contract. The loop's invariant: so many bytes have been copied to the offset, and the rest is as it was.
+-- The measure is how many are left.
 -- Assumes nothing.
 use lib.ListN.{length-set, length}
 use native.Mathlib.Numerals.{add-one}

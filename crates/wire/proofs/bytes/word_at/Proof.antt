@@ -1,4 +1,4 @@
--- `wire::bytes::word_at` meets its contract.
+-- `wire::bytes::word_at` meets its contract: past the end both bytes are 0.
 -- Assumes nothing.
 use lib.ListN.{List·getD-eq-default, length}
 use Prim.Native.Nat.{_+_, _≤_}

@@ -1,4 +1,4 @@
--- `wire::search::has_byte` meets its contract.
+-- `wire::search::has_byte` meets its contract. The loop's invariant: none of the bytes passed is the one sought.
 -- Assumes nothing.
 use Rattle.wire.proofs.Matches.{among-at, among-none}
 use borrow.Author.Count.{below-none, below-more}

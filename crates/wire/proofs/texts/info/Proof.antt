@@ -1,4 +1,4 @@
--- `wire::texts::info` meets its contract.
+-- `wire::texts::info` meets its contract: the label and the head, one behind the other, fill the 29 bytes.
 -- Assumes nothing.
 use Rattle.wire.specs.Texts.{requestLabel}
 use Rattle.wire.proofs.Info.{info-parts}
