@@ -3,3 +3,4 @@ pub mod Parts
 pub mod Fronts
 pub mod Pairs
 pub mod Choosing
+pub mod Edges
