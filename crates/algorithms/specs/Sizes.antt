@@ -3,6 +3,7 @@
 use Prim.Native.Nat.{ℕ, _+_, max}
 use mathlib.Core.Bool.{Bool, true, false, not}
 use lib.Dec.{eqb}
+use Rattle.wire.specs.Texts.{headLength}
 use Rattle.wire.specs.Tests.{_and_}
 use Rattle.algorithms.specs.declared.Row.{Row}
 use Rattle.algorithms.specs.declared.Size.{Size}
@@ -16,10 +17,6 @@ tagLength = 16
 -- Nn of every AEAD
 abbrev pub nonceLength : ℕ
 nonceLength = 12
-
--- a request's bytes before enc
-abbrev pub headLength : ℕ
-headLength = 7
 
 -- the row is in the table
 abbrev pub isKnown : Row → Bool

@@ -3,6 +3,7 @@ ghost use mathlib.Core.Path.{_≡_};
 ghost use Prim.Native.Nat.{max};
 ghost use Rattle.algorithms.specs.Table.{isRow, rowOf, kemKind, kdfKind, aeadKind};
 ghost use Rattle.algorithms.specs.Sizes.{isKnown, sizeOf, knownKem, knownKdf, knownAead, knownPair, encLength, publicKeyLength, shortestRequest, keyLength, responseNonceLength, secretLength};
+use wire::texts::HEAD_LENGTH;
 
 // A row of the table. A KEM has Nenc and Npk, an AEAD has Nk; what an algorithm does not have is 0.
 pub struct Row {
@@ -175,9 +176,6 @@ pub struct Kdf(pub u16);
 pub struct Aead(pub u16);
 
 impl Kem {
-    // The bytes of a request before enc: key id, KEM, KDF, AEAD.
-    pub const HEAD_LENGTH: usize = 7;
-
     fn row(self) -> Row
         ensures { λ r. ⌜ r ≡ rowOf kemKind (self .0) ⌝ }
     {
@@ -205,7 +203,7 @@ impl Kem {
         ensures { λ r. ⌜ r ≡ sizeOf (knownKem (self .0)) (shortestRequest (self .0)) ⌝ }
     {
         let row = self.row();
-        row.size(Kem::HEAD_LENGTH + (row.enc as usize) + Aead::TAG_LENGTH)
+        row.size(HEAD_LENGTH + (row.enc as usize) + Aead::TAG_LENGTH)
     }
 }
 

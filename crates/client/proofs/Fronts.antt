@@ -10,14 +10,14 @@ use borrow.Author.Tests.{eqb-true, leb-true}
 use Rattle.wire.specs.Tests.{_and_}
 use Rattle.wire.specs.Refusals.{refused}
 use Rattle.wire.proofs.Booleans.{either, and-left, and-right}
-use Rattle.algorithms.specs.Sizes.{knownKem, knownPair, encLength, headLength}
-use Rattle.client.specs.declared.head.Headed.{Headed}
-use Rattle.client.specs.Head.{headRefusal, headed, unlessRefused}
-use Rattle.wire.specs.Texts.{infoLength}
+use Rattle.algorithms.specs.Sizes.{knownKem, knownPair, encLength}
+use Rattle.client.specs.declared.head.HeadAnswer.{HeadAnswer}
+use Rattle.client.specs.Head.{headRefusal, headAnswer, unlessRefused}
+use Rattle.wire.specs.Texts.{headLength, infoLength}
 
-pub headed-refused : (n length : ℕ) → (n ≡ 0 → ⊥) → Headed.Refused (refused n) ≡ headed n length
-headed-refused zero length h = absurd (h refl)
-headed-refused (suc n) length h = refl
+pub head-refused : (n length : ℕ) → (n ≡ 0 → ⊥) → HeadAnswer.Refused (refused n) ≡ headAnswer n length
+head-refused zero length h = absurd (h refl)
+head-refused (suc n) length h = refl
 
 pub unless-refused : (n : ℕ) (bytes buffer : List ℕ) → (n ≡ 0 → ⊥) → buffer ≡ unlessRefused n bytes buffer
 unless-refused zero bytes buffer h = absurd (h refl)

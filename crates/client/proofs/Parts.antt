@@ -14,15 +14,15 @@ use Rattle.algorithms.specs.Sizes.{knownAead, responseNonceLength, nonceLength,
 use Rattle.client.specs.declared.split.Parts.{Parts}
 use Rattle.client.specs.Split.{splitRefusal, splitAnswer, partsOf, noncePart, ciphertextPart, IsRefused, PartsEmptyOnRefusal}
 
-meets : (refusal nonceEnd at : ℕ) → partsOf refusal nonceEnd ≡ Parts.Meet at → (refusal ≡ 0) × (nonceEnd ≡ at)
+meets : (refusal nonceEnd at : ℕ) → partsOf refusal nonceEnd ≡ Parts.NonceEnd at → (refusal ≡ 0) × (nonceEnd ≡ at)
 meets zero nonceEnd at e = (refl, cc)
 meets (suc n) nonceEnd at e = absurd (let z : _≡_ {A = ℕ} 0 1 = cc in omega arith)
 
-meet-or-refused : {at : ℕ} {r : Refusal} → Parts.Meet at ≡ Parts.Refused r → ⊥
+meet-or-refused : {at : ℕ} {r : Refusal} → Parts.NonceEnd at ≡ Parts.Refused r → ⊥
 meet-or-refused e = let z : _≡_ {A = ℕ} 0 1 = cc in omega arith
 
 -- a nonce is there, and a tag behind it
-pub meets-within : (aead size at : ℕ) → splitAnswer aead size ≡ Parts.Meet at
+pub meets-within : (aead size at : ℕ) → splitAnswer aead size ≡ Parts.NonceEnd at
     → (nonceLength ≤ at) × (at + tagLength ≤ size)
 unfolding splitRefusal
 meets-within aead size at e =
@@ -35,15 +35,15 @@ meets-within aead size at e =
 
 module _ (response : List ℕ) where
   abbrev Within : Parts → Type 0
-  Within answer = (at : ℕ) → answer ≡ Parts.Meet at → (nonceLength ≤ at) × (at + tagLength ≤ length response)
+  Within answer = (at : ℕ) → answer ≡ Parts.NonceEnd at → (nonceLength ≤ at) × (at + tagLength ≤ length response)
 
   nonce-empty : (answer : Parts) → Within answer → (noncePart response answer ≡ []) ↔ IsRefused answer
-  nonce-empty (Parts.Meet at) within =
+  nonce-empty (Parts.NonceEnd at) within =
       (λ e. absurd (omega (arith, within at refl, simp length-take at (ap length e))), λ r. absurd (meet-or-refused (r .1)))
   nonce-empty (Parts.Refused r) within = (λ e. (r, refl), λ x. refl)
 
   ciphertext-empty : (answer : Parts) → Within answer → (ciphertextPart response answer ≡ []) ↔ IsRefused answer
-  ciphertext-empty (Parts.Meet at) within =
+  ciphertext-empty (Parts.NonceEnd at) within =
       (λ e. absurd (omega (arith, within at refl, simp length-drop at (ap length e))), λ r. absurd (meet-or-refused (r .1)))
   ciphertext-empty (Parts.Refused r) within = (λ e. (r, refl), λ x. refl)
 

@@ -7,9 +7,9 @@ use lib.ListN.{length}
 use Rattle.wire.specs.Tests.{_and_}
 use Rattle.wire.specs.Bytes.{withFront}
 use Rattle.wire.specs.Refusals.{_when_otherwise_, refused}
-use Rattle.wire.specs.Texts.{infoLength}
-use Rattle.algorithms.specs.Sizes.{knownKem, knownPair, encLength, headLength}
-use Rattle.client.specs.declared.head.Headed.{Headed}
+use Rattle.wire.specs.Texts.{headLength, infoLength}
+use Rattle.algorithms.specs.Sizes.{knownKem, knownPair, encLength}
+use Rattle.client.specs.declared.head.HeadAnswer.{HeadAnswer}
 
 -- 01, "Order", head; 0: no refusal
 unfoldable pub headRefusal : ℕ → ℕ → ℕ → List ℕ → ℕ → ℕ → ℕ
@@ -21,9 +21,9 @@ headRefusal kem kdf aead enc headRoom infoRoom =
     0
 
 -- the answer of a refusal number: with 0, the length of the head that was written
-abbrev pub headed : ℕ → ℕ → Headed
-headed zero length = Headed.Length length
-headed (suc n) length = Headed.Refused (refused (suc n))
+abbrev pub headAnswer : ℕ → ℕ → HeadAnswer
+headAnswer zero length = HeadAnswer.Length length
+headAnswer (suc n) length = HeadAnswer.Refused (refused (suc n))
 
 -- a buffer of a refusal number: with 0, the bytes stand at its front
 abbrev pub unlessRefused : ℕ → List ℕ → List ℕ → List ℕ

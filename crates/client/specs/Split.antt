@@ -25,7 +25,7 @@ splitRefusal aead size =
 
 -- the checking entry's answer of a refusal number: with 0, where the nonce ends and the ciphertext starts
 abbrev pub partsOf : ℕ → ℕ → Parts
-partsOf zero nonceEnd = Parts.Meet nonceEnd
+partsOf zero nonceEnd = Parts.NonceEnd nonceEnd
 partsOf (suc n) nonceEnd = Parts.Refused (refused (suc n))
 
 abbrev pub splitAnswer : ℕ → ℕ → Parts
@@ -33,11 +33,11 @@ splitAnswer aead size = partsOf (splitRefusal aead size) (responseNonceLength ae
 
 -- the two parts, empty on refusal
 abbrev pub noncePart : List ℕ → Parts → List ℕ
-noncePart response (Parts.Meet at) = take at response
+noncePart response (Parts.NonceEnd at) = take at response
 noncePart response (Parts.Refused r) = []
 
 abbrev pub ciphertextPart : List ℕ → Parts → List ℕ
-ciphertextPart response (Parts.Meet at) = drop at response
+ciphertextPart response (Parts.NonceEnd at) = drop at response
 ciphertextPart response (Parts.Refused r) = []
 
 abbrev pub IsRefused : Parts → Type 0
@@ -49,6 +49,6 @@ pub record PartsEmptyOnRefusal : Type 0 where
       → (noncePart response (splitAnswer aead (length response)) ≡ []) ↔ IsRefused (splitAnswer aead (length response))
   pub ciphertext : (aead : ℕ) (response : List ℕ)
       → (ciphertextPart response (splitAnswer aead (length response)) ≡ []) ↔ IsRefused (splitAnswer aead (length response))
-  pub whole : (aead at : ℕ) (response : List ℕ) → splitAnswer aead (length response) ≡ Parts.Meet at
+  pub whole : (aead at : ℕ) (response : List ℕ) → splitAnswer aead (length response) ≡ Parts.NonceEnd at
       → noncePart response (splitAnswer aead (length response)) ++ ciphertextPart response (splitAnswer aead (length response))
       ≡ response

@@ -70,7 +70,7 @@ fn choose_in_good(list: &[u8], kems: &[u16], pairs: &[u16]) -> Chosen
             Chosen::Usable(choice) => return Chosen::Usable(choice),
             Chosen::Refused(_) => {}
         }
-        at = at + 2 + (word_at(list, at) as usize);
+        at = place_at(list, at).end;
     }
     refused(Refusal::NO_USABLE_CONFIGURATION)
 }

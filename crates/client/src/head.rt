@@ -3,9 +3,9 @@ ghost use mathlib.Core.Path.{_≡_};
 ghost use Prim.Native.Nat.{_+_};
 ghost use lib.ListN.{length};
 ghost use mathlib.Core.List.{_++_};
-ghost use Rattle.wire.specs.Texts.{headBytes, infoBytes};
-ghost use Rattle.algorithms.specs.Sizes.{encLength, headLength};
-ghost use Rattle.client.specs.Head.{headRefusal, headed, unlessRefused};
+ghost use Rattle.wire.specs.Texts.{headLength, headBytes, infoBytes};
+ghost use Rattle.algorithms.specs.Sizes.{encLength};
+ghost use Rattle.client.specs.Head.{headRefusal, headAnswer, unlessRefused};
 use algorithms::Aead;
 use algorithms::Kdf;
 use algorithms::Kem;
@@ -17,7 +17,7 @@ use wire::refusal::Refusal;
 use wire::texts;
 
 // The length of the head that was written, or the refusal.
-pub enum Headed {
+pub enum HeadAnswer {
     Length(usize),
     Refused(Refusal),
 }
@@ -31,8 +31,8 @@ pub fn write(
     enc: &[u8],
     head: &mut [u8],
     info: &mut [u8],
-) -> Headed
-    ensures answer { λ r. ⌜ r ≡ headed
+) -> HeadAnswer
+    ensures answer { λ r. ⌜ r ≡ headAnswer
         (headRefusal (kem .0) (kdf .0) (aead .0) (now (enc .entry)) (length (now (head .entry))) (length (now (info .entry))))
         (headLength + encLength (kem .0)) ⌝ }
     ensures request { λ r. ⌜ now (head .exit) ≡ unlessRefused
@@ -44,14 +44,14 @@ pub fn write(
 {
     let number = refusal(kem, kdf, aead, enc, head.len(), info.len());
     if number != 0 {
-        return Headed::Refused(Refusal::of(number));
+        return HeadAnswer::Refused(Refusal::of(number));
     }
     let front = texts::head(key_id.0, kem.0, kdf.0, aead.0);
     overwrite(head, 0, &front);
-    overwrite(head, Kem::HEAD_LENGTH, enc);
+    overwrite(head, texts::HEAD_LENGTH, enc);
     let context = texts::info(front);
     overwrite(info, 0, &context);
-    Headed::Length(Kem::HEAD_LENGTH + enc.len())
+    HeadAnswer::Length(texts::HEAD_LENGTH + enc.len())
 }
 
 // The number of the first refusal that applies, 0 where none does.
@@ -67,7 +67,7 @@ fn refusal(kem: Kem, kdf: Kdf, aead: Aead, enc: &[u8], head_room: usize, info_ro
     if enc.len() != size {
         return Refusal::WRONG_LENGTH;
     }
-    if head_room < Kem::HEAD_LENGTH + size {
+    if head_room < texts::HEAD_LENGTH + size {
         return Refusal::NO_ROOM;
     }
     if info_room < texts::INFO_LENGTH {

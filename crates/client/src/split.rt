@@ -10,7 +10,7 @@ use wire::refusal::Refusal;
 
 // Where the nonce ends and the ciphertext starts, or the refusal.
 pub enum Parts {
-    Meet(usize),
+    NonceEnd(usize),
     Refused(Refusal),
 }
 
@@ -27,7 +27,7 @@ pub fn check(aead: Aead, response: &[u8]) -> Parts
     if nonce + LONGEST_PLAIN + Aead::TAG_LENGTH < response.len() {
         return refused(Refusal::TOO_LONG);
     }
-    Parts::Meet(nonce)
+    Parts::NonceEnd(nonce)
 }
 
 // The nonce, empty exactly where `check` refuses.
@@ -35,7 +35,7 @@ pub fn nonce(aead: Aead, response: &[u8]) -> &[u8]
     ensures { λ r. ⌜ now r ≡ noncePart (now (response .entry)) (splitAnswer (aead .0) (length (now (response .entry)))) ⌝ }
 {
     match check(aead, response) {
-        Parts::Meet(at) => &response[..at],
+        Parts::NonceEnd(at) => &response[..at],
         Parts::Refused(_) => &response[..0],
     }
 }
@@ -45,7 +45,7 @@ pub fn ciphertext(aead: Aead, response: &[u8]) -> &[u8]
     ensures { λ r. ⌜ now r ≡ ciphertextPart (now (response .entry)) (splitAnswer (aead .0) (length (now (response .entry)))) ⌝ }
 {
     match check(aead, response) {
-        Parts::Meet(at) => &response[at..],
+        Parts::NonceEnd(at) => &response[at..],
         Parts::Refused(_) => &response[..0],
     }
 }

@@ -37,7 +37,7 @@ pub fn pair_bytes_hold(size: usize) -> bool
     size <= MOST_PAIR_BYTES
 }
 
-// Where the next configuration would start. An offset in the list, so that no sum wraps.
+// Where the next configuration would start. This and the next two ask for an offset in the list, so that no sum wraps.
 fn next_start(list: &[u8], at: usize) -> usize
     requires { ⌜ at < length (now list) ⌝ }
     ensures { λ r. ⌜ r ≡ nextStart (now (list .entry)) at ⌝ }

@@ -125,7 +125,8 @@ impl Cursor {
         }
     }
 
-    // The cursor behind a configuration with so many key bytes and pair numbers.
+    // The cursor behind a configuration with so many key bytes and pair numbers. It asks for the bounds that a configuration
+    // which keeps the layout's rules has, so that no sum wraps.
     fn next(self, key: usize, pair_count: usize) -> Self
         requires { ⌜ (self .index < 16) × (self .at ≤ 4096) × (self .«key_at» ≤ 4096) × (self .«pair_at» ≤ 4096)
             × (key ≤ 133) × («pair_count» ≤ 32) ⌝ }
@@ -141,7 +142,8 @@ impl Cursor {
     }
 }
 
-// The configuration at the cursor keeps the layout's rules, and its key id is not taken.
+// The configuration at the cursor keeps the layout's rules, and its key id is not taken. The walk keeps the cursor inside the
+// fields, which is why this may ask for it.
 fn is_writable(
     ids: &[u8],
     kems: &[u16],

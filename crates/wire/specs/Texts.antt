@@ -10,7 +10,11 @@ unfoldable pub ascii : String → List ℕ
 ascii end = []
 ascii (c then s) = code c ∷ ascii s
 
--- the request's first 7 bytes: key id, KEM, KDF, AEAD
+-- a request's bytes before enc
+abbrev pub headLength : ℕ
+headLength = 7
+
+-- these bytes: key id, KEM, KDF, AEAD
 abbrev pub headBytes : ℕ → ℕ → ℕ → ℕ → List ℕ
 headBytes keyId kem kdf aead = keyId ∷ wordBytes kem ++ wordBytes kdf ++ wordBytes aead
 

@@ -3,6 +3,9 @@ ghost use mathlib.Core.Path.{_≡_};
 ghost use Rattle.wire.specs.Texts.{headBytes, infoBytes, exporterContext};
 use crate::bytes::overwrite;
 
+// The bytes of a request before enc: key id, KEM, KDF, AEAD.
+pub const HEAD_LENGTH: usize = 7;
+
 // The length of info.
 pub const INFO_LENGTH: usize = 29;
 
@@ -17,7 +20,7 @@ pub fn exporter_context() -> [u8; 22]
 }
 
 // The first 7 bytes of a request.
-pub fn head(key_id: u8, kem: u16, kdf: u16, aead: u16) -> [u8; 7]
+pub fn head(key_id: u8, kem: u16, kdf: u16, aead: u16) -> [u8; HEAD_LENGTH]
     ensures { λ r. ⌜ r ≡ headBytes «key_id» kem kdf aead ⌝ }
 {
     [
@@ -32,11 +35,11 @@ pub fn head(key_id: u8, kem: u16, kdf: u16, aead: u16) -> [u8; 7]
 }
 
 // Info, of the first 7 bytes of a request.
-pub fn info(head: [u8; 7]) -> [u8; INFO_LENGTH]
+pub fn info(head: [u8; HEAD_LENGTH]) -> [u8; INFO_LENGTH]
     ensures { λ r. ⌜ r ≡ infoBytes head ⌝ }
 {
     let mut info = [0u8; INFO_LENGTH];
     overwrite(&mut info, 0, &REQUEST_LABEL);
-    overwrite(&mut info, 22, &head);
+    overwrite(&mut info, REQUEST_LABEL.len(), &head);
     info
 }

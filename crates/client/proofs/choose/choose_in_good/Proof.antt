@@ -1,15 +1,17 @@
 -- `client::choose::choose_in_good` meets its contract. The loop's invariant: the choice is the choice among the configurations that
 -- are left, and at the offset the first of them starts. The measure is what is left of the list.
 -- Assumes nothing.
-use mathlib.Core.Path.{_≡_, sym, _∙_}
+use mathlib.Core.Path.{ap, _≡_, sym, _∙_}
 use Prim.Native.Nat.{_-_, _≤_}
 use native.Mathlib.Omega.{arith}
 use borrow.Author.Needs.{needs}
 use borrow.Author.Tests.{eq-eqb}
 use lib.ListN.{length}
 use Rattle.keylist.proofs.Walk.{GoodFrom, GoodNext, walk-start, walk-next, walk-end}
-use Rattle.keylist.specs.Layout.{parse}
+use Rattle.keylist.specs.Layout.{parse, nextStart}
 use Rattle.client.specs.Choose.{chooseFrom, chooseFirst}
+use Rattle.keylist.specs.declared.Place.{Place}
+use Rattle.keylist.proofs.Keys.{place-inside}
 use Rattle.client.proofs.Choosing.{good-layout, chosen-first, chosen-later}
 use Rattle.client.proofs.choose.choose_in_good.Statement.{statement}
 use Rattle.client.proofs.choose.choose_in_good.Tie as tie
@@ -53,20 +55,21 @@ returns c =
 enum-told : tie.Need-enum-told Inv-loop μ-loop
 enum-told c = search needs
 
-add-at : tie.Need-add-at Inv-loop μ-loop
-add-at c = search needs
+place-at-requires : tie.Need-place-at-requires Inv-loop μ-loop
+place-at-requires c κs = search needs
 
-word-at-requires : tie.Need-word-at-requires Inv-loop μ-loop
-word-at-requires c κs = search needs
-
-cast-at : tie.Need-cast-at Inv-loop μ-loop
-cast-at c = search needs
-
-add-at-2 : tie.Need-add-at-2 Inv-loop μ-loop
-add-at-2 c = search needs
+-- the offset that the loop goes on from is where the next configuration starts
+goes-on : (c : tie.After-place-at Inv-loop μ-loop)
+    → (let l = c .before .before .before .before .before .loop in
+    let list = c .before .before .before .before .before .before .before .before .before .args .list .now in
+    c .place-at .result .end ≡ nextStart list (l .at))
+goes-on c =
+    let l = c .before .before .before .before .before .loop in
+    let list = c .before .before .before .before .before .before .before .before .before .args .list .now in
+    ap (λ (p : Place). p .end) (c .place-at .ensures ∙ place-inside list (l .at) (omega arith))
 
 loop-less : tie.Need-loop-less Inv-loop μ-loop
-loop-less c = omega arith
+loop-less c = omega (arith, goes-on c)
 
 loop-again : tie.Need-loop-again Inv-loop μ-loop
 loop-again c =
@@ -75,7 +78,7 @@ loop-again c =
     let n = next (c .before .before .before .before) in
     let here = sym (c .before .before .before .choose-at .ensures) ∙ c .before .enum-told .given .1 in
     let later = l .inv .1 ∙ chosen-later (a .kems .now) (a .pairs .now) (a .list .now) (l .at) n here in
-    rw (c .word-at .ensures) (n .next, later, n .holding .whole)
+    rw (goes-on c) (n .next, later, n .holding .whole)
 
 refused-requires : tie.Need-refused-requires Inv-loop μ-loop
 refused-requires c κs = search needs
@@ -97,10 +100,7 @@ choose-in-good-spec =
     enum-known-choice
     returns
     enum-told
-    add-at
-    word-at-requires
-    cast-at
-    add-at-2
+    place-at-requires
     loop-less
     loop-again
     refused-requires

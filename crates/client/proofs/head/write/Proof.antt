@@ -5,11 +5,11 @@ use Prim.Native.Nat.{_+_, _≤_}
 use native.Mathlib.Omega.{arith}
 use lib.ListN.{length}
 use borrow.Author.Needs.{needs}
-use Rattle.wire.specs.Texts.{requestLabel, infoBytes, headBytes, infoLength}
+use Rattle.wire.specs.Texts.{headLength, requestLabel, infoBytes, headBytes, infoLength}
 use Rattle.wire.proofs.Writes.{front-first, front-more}
-use Rattle.algorithms.specs.Sizes.{encLength, headLength}
-use Rattle.client.specs.declared.head.Headed.{Headed}
-use Rattle.client.proofs.Fronts.{headed-refused, unless-refused, head-accepted}
+use Rattle.algorithms.specs.Sizes.{encLength}
+use Rattle.client.specs.declared.head.HeadAnswer.{HeadAnswer}
+use Rattle.client.proofs.Fronts.{head-refused, unless-refused, head-accepted}
 use Rattle.client.proofs.head.write.Statement.{statement}
 use Rattle.client.proofs.head.write.Tie as tie
 
@@ -42,7 +42,7 @@ returns c =
     let number = c .before .before .refusal .result in
     let refuses = c .before .if1 .taken in
     rw (← c .before .before .refusal .ensures) (
-      ap Headed.Refused (c .of .ensures) ∙ headed-refused number _ refuses,
+      ap HeadAnswer.Refused (c .of .ensures) ∙ head-refused number _ refuses,
       (unless-refused number _ (a .head .now) refuses, unless-refused number _ (a .info .now) refuses),
     )
 

@@ -15,7 +15,7 @@ use Rattle.client.proofs.split.nonce.Tie as tie
 -- `check` answers where the parts meet, within the response
 accepted : (c : tie.After-at)
     → let a = c .before .before .before .before .args in
-    splitAnswer (a .aead .0) (length (a .response .now)) ≡ Parts.Meet (c .at .given .0 .0)
+    splitAnswer (a .aead .0) (length (a .response .now)) ≡ Parts.NonceEnd (c .at .given .0 .0)
 accepted c = sym (c .before .before .check .ensures) ∙ c .at .given .1
 
 within : (c : tie.After-at)
