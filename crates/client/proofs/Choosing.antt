@@ -15,7 +15,8 @@ use Rattle.wire.proofs.Matches.{any-first}
 use Rattle.wire.proofs.Booleans.{either, true-or-false, and-left, and-right, and-false}
 use Rattle.algorithms.specs.Sizes.{knownKem, knownPair}
 use Rattle.algorithms.proofs.Stated.{size-bounds}
-use Rattle.keylist.specs.Layout.{Pair, Configuration, Outcome, good, bad, parse, nextStart, configurationAt, layoutHolds, pairsAt, keyIdAt, kemAt, keyStart, keyEnd, pairBytesAt, pairsStart}
+use Rattle.keylist.specs.declared.Pair.{Pair}
+use Rattle.keylist.specs.Layout.{Configuration, Outcome, good, bad, parse, nextStart, configurationAt, layoutHolds, pairsAt, keyIdAt, kemAt, keyStart, keyEnd, pairBytesAt, pairsStart}
 use Rattle.keylist.proofs.LayoutLaws.{Holds, holds-by-pairs}
 use Rattle.keylist.proofs.Walk.{GoodFrom, GoodNext, walk-start, walk-next, walk-end, key-length-at}
 use Rattle.client.specs.declared.choose.Choice.{Choice}

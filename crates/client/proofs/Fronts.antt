@@ -12,16 +12,12 @@ use Rattle.wire.specs.Refusals.{refused}
 use Rattle.wire.proofs.Booleans.{either, and-left, and-right}
 use Rattle.algorithms.specs.Sizes.{knownKem, knownPair, encLength}
 use Rattle.client.specs.declared.head.HeadAnswer.{HeadAnswer}
-use Rattle.client.specs.Head.{headRefusal, headAnswer, unlessRefused}
+use Rattle.client.specs.Head.{headRefusal, headAnswer}
 use Rattle.wire.specs.Texts.{headLength, infoLength}
 
 pub head-refused : (n length : ℕ) → (n ≡ 0 → ⊥) → HeadAnswer.Refused (refused n) ≡ headAnswer n length
 head-refused zero length h = absurd (h refl)
 head-refused (suc n) length h = refl
-
-pub unless-refused : (n : ℕ) (bytes buffer : List ℕ) → (n ≡ 0 → ⊥) → buffer ≡ unlessRefused n bytes buffer
-unless-refused zero bytes buffer h = absurd (h refl)
-unless-refused (suc n) bytes buffer h = refl
 
 -- no refusal: enc is as long as the KEM says, and both buffers have room
 pub head-accepted : (kem kdf aead : ℕ) (enc : List ℕ) (headRoom infoRoom : ℕ)

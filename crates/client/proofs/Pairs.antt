@@ -13,7 +13,8 @@ use Rattle.wire.specs.Tests.{pick, _and_}
 use Rattle.wire.specs.Bytes.{wordAt}
 use Rattle.wire.specs.Search.{firstPlace, anyPasses}
 use Rattle.wire.proofs.Booleans.{either, true-or-false, and-left, and-right}
-use Rattle.keylist.specs.Layout.{Pair, pairsAt}
+use Rattle.keylist.specs.declared.Pair.{Pair}
+use Rattle.keylist.specs.Layout.{pairsAt}
 use Rattle.client.specs.declared.choose.PairFound.{PairFound}
 use Rattle.client.specs.Choose.{pairsOf, samePair, listed, usablePair, pairAnswer, pairFound}
 

@@ -10,7 +10,8 @@ use Rattle.wire.specs.Search.{firstPlace, anyPasses, among}
 use Rattle.wire.specs.Refusals.{refused}
 use Rattle.wire.specs.declared.refusal.Refusal.{Refusal}
 use Rattle.algorithms.specs.Sizes.{knownKem, knownPair}
-use Rattle.keylist.specs.Layout.{Pair, Configuration, Outcome, good, bad, keyStart, parse}
+use Rattle.keylist.specs.declared.Pair.{Pair}
+use Rattle.keylist.specs.Layout.{Configuration, Outcome, good, bad, keyStart, parse}
 use Rattle.client.specs.declared.choose.Choice.{Choice}
 use Rattle.client.specs.declared.choose.Chosen.{Chosen}
 use Rattle.client.specs.declared.choose.PairFound.{PairFound}

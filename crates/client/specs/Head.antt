@@ -5,7 +5,6 @@ use mathlib.Core.List.{List}
 use lib.Dec.{eqb, leb}
 use lib.ListN.{length}
 use Rattle.wire.specs.Tests.{_and_}
-use Rattle.wire.specs.Bytes.{withFront}
 use Rattle.wire.specs.Refusals.{_when_otherwise_, refused}
 use Rattle.wire.specs.Texts.{headLength, infoLength}
 use Rattle.algorithms.specs.Sizes.{knownKem, knownPair, encLength}
@@ -24,8 +23,3 @@ headRefusal kem kdf aead enc headRoom infoRoom =
 abbrev pub headAnswer : ℕ → ℕ → HeadAnswer
 headAnswer zero length = HeadAnswer.Length length
 headAnswer (suc n) length = HeadAnswer.Refused (refused (suc n))
-
--- a buffer of a refusal number: with 0, the bytes stand at its front
-abbrev pub unlessRefused : ℕ → List ℕ → List ℕ → List ℕ
-unlessRefused zero bytes buffer = withFront bytes buffer
-unlessRefused (suc n) bytes buffer = buffer

@@ -3,9 +3,10 @@ ghost use mathlib.Core.Path.{_≡_};
 ghost use Prim.Native.Nat.{_+_};
 ghost use lib.ListN.{length};
 ghost use mathlib.Core.List.{_++_};
+ghost use Rattle.wire.specs.Refusals.{written};
 ghost use Rattle.wire.specs.Texts.{headLength, headBytes, infoBytes};
 ghost use Rattle.algorithms.specs.Sizes.{encLength};
-ghost use Rattle.client.specs.Head.{headRefusal, headAnswer, unlessRefused};
+ghost use Rattle.client.specs.Head.{headRefusal, headAnswer};
 use algorithms::Aead;
 use algorithms::Kdf;
 use algorithms::Kem;
@@ -35,10 +36,10 @@ pub fn write(
     ensures answer { λ r. ⌜ r ≡ headAnswer
         (headRefusal (kem .0) (kdf .0) (aead .0) (now (enc .entry)) (length (now (head .entry))) (length (now (info .entry))))
         (headLength + encLength (kem .0)) ⌝ }
-    ensures request { λ r. ⌜ now (head .exit) ≡ unlessRefused
+    ensures request { λ r. ⌜ now (head .exit) ≡ written
         (headRefusal (kem .0) (kdf .0) (aead .0) (now (enc .entry)) (length (now (head .entry))) (length (now (info .entry))))
         (headBytes («key_id» .0) (kem .0) (kdf .0) (aead .0) ++ now (enc .entry)) (now (head .entry)) ⌝ }
-    ensures context { λ r. ⌜ now (info .exit) ≡ unlessRefused
+    ensures context { λ r. ⌜ now (info .exit) ≡ written
         (headRefusal (kem .0) (kdf .0) (aead .0) (now (enc .entry)) (length (now (head .entry))) (length (now (info .entry))))
         (infoBytes (headBytes («key_id» .0) (kem .0) (kdf .0) (aead .0))) (now (info .entry)) ⌝ }
 {

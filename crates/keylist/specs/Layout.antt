@@ -10,6 +10,7 @@ use Rattle.wire.specs.Search.{among}
 use Rattle.wire.specs.Refusals.{badList}
 use Rattle.wire.specs.declared.refusal.Refusal.{Refusal}
 use Rattle.algorithms.specs.Sizes.{knownKem, publicKeyLength}
+use Rattle.keylist.specs.declared.Pair.{Pair}
 
 -- the house limits
 abbrev pub mostConfigurations : ℕ
@@ -17,11 +18,6 @@ mostConfigurations = 16
 
 abbrev pub mostPairBytes : ℕ
 mostPairBytes = 64
-
--- a pair of KDF and AEAD
-pub record Pair : Type 0 where
-  pub kdf : ℕ
-  pub aead : ℕ
 
 -- a configuration, and the offset of its length in the list
 pub record Configuration : Type 0 where

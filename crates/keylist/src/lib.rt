@@ -5,7 +5,15 @@ pub mod key;
 use wire::refusal::Refusal;
 
 // 01's key id: the first byte of a configuration and of a request.
+#[repr(C)]
 pub struct KeyId(pub u8);
+
+// A pair of KDF and AEAD.
+#[repr(C)]
+pub struct Pair {
+    pub kdf: u16,
+    pub aead: u16,
+}
 
 // The number of configurations, or the refusal.
 pub enum Checked {

@@ -3,7 +3,8 @@ use Prim.Native.Nat.{ℕ, _<_}
 use mathlib.Core.Path.{_≡_}
 use mathlib.Core.List.{List, [], _∷_, _++_, map}
 use lib.ListN.{length, getD}
-use Rattle.keylist.specs.Layout.{Pair, Configuration, good, parse}
+use Rattle.keylist.specs.declared.Pair.{Pair}
+use Rattle.keylist.specs.Layout.{Configuration, good, parse}
 use Rattle.listwriter.specs.Writer.{Fields, encode}
 
 -- each element is a byte, as every element of a lent slice is

@@ -1,6 +1,6 @@
 -- What the crate's contracts cite: tests, refusals, reads and writes of bytes, first matches, and RFC 9458's fixed texts.
 pub mod Tests
-pub mod Refusals
 pub mod Bytes
+pub mod Refusals
 pub mod Search
 pub mod Texts

@@ -1,7 +1,8 @@
--- A choice by a test, and a test that is the conjunction of two.
+-- A choice by a test, and tests made of two.
 use mathlib.Core.Bool.{Bool, true, false}
 
 infixr 6 _and_
+infixr 5 _or_
 -- the first where the test holds, else the second
 abbrev pub pick : {A : Type 0} → Bool → A → A → A
 pick true a b = a
@@ -11,3 +12,8 @@ pick false a b = b
 abbrev pub _and_ : Bool → Bool → Bool
 _and_ true b = b
 _and_ false b = false
+
+-- one of the tests holds
+abbrev pub _or_ : Bool → Bool → Bool
+_or_ true b = true
+_or_ false b = b

@@ -8,7 +8,7 @@ use native.Mathlib.Omega.{arith}
 use borrow.Author.Needs.{needs}
 use lib.ListN.{length, drop}
 use Rattle.wire.specs.Tests.{pick}
-use Rattle.keylist.specs.Layout.{Pair}
+use Rattle.keylist.specs.declared.Pair.{Pair}
 use Rattle.client.specs.Choose.{listed}
 use Rattle.client.proofs.Pairs.{listed-step, listed-end}
 use Rattle.client.proofs.choose.is_listed.Statement.{statement}

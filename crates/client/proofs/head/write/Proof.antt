@@ -9,7 +9,8 @@ use Rattle.wire.specs.Texts.{headLength, requestLabel, infoBytes, headBytes, in
 use Rattle.wire.proofs.Writes.{front-first, front-more}
 use Rattle.algorithms.specs.Sizes.{encLength}
 use Rattle.client.specs.declared.head.HeadAnswer.{HeadAnswer}
-use Rattle.client.proofs.Fronts.{head-refused, unless-refused, head-accepted}
+use Rattle.client.proofs.Fronts.{head-refused, head-accepted}
+use Rattle.wire.proofs.Numbers.{unless-refused}
 use Rattle.client.proofs.head.write.Statement.{statement}
 use Rattle.client.proofs.head.write.Tie as tie
 
@@ -43,7 +44,7 @@ returns c =
     let refuses = c .before .if1 .taken in
     rw (← c .before .before .refusal .ensures) (
       ap HeadAnswer.Refused (c .of .ensures) ∙ head-refused number _ refuses,
-      (unless-refused number _ (a .head .now) refuses, unless-refused number _ (a .info .now) refuses),
+      (unless-refused number _ _ refuses, unless-refused number _ _ refuses),
     )
 
 head-requires : tie.Need-head-requires
