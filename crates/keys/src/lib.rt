@@ -1,13 +1,14 @@
 // The gateway's keys: made of a key list, found by id, each with its pairs, its use count and its retirement.
 ghost use mathlib.Core.Path.{_≡_};
-ghost use Prim.Native.Nat.{_≤_, _<_, _+_, _*_};
+ghost use Prim.Native.Nat.{_≤_, _+_, _*_};
 ghost use mathlib.Core.Bool.{true};
+ghost use mathlib.Core.List.{[]};
+ghost use lib.Dec.{ltb};
 ghost use lib.ListN.{length};
-ghost use Rattle.wire.specs.Search.{firstPlace};
 ghost use Rattle.keylist.specs.Layout.{parse, layoutHolds, configurationAt, pairsAt};
-ghost use Rattle.keylist.specs.Answers.{IsGood, checked};
-ghost use Rattle.keys.specs.Keys.{keyOf, keysOf, hasId, isPair, offers, useRefusal, keyRefusal, retireRefusal};
-ghost use Rattle.keys.specs.Stored.{padded, noPair, noKey, noKeys, storedKey, keysFrom, oneMore, charged, retired, keyReports};
+ghost use Rattle.keylist.specs.Answers.{IsGood};
+ghost use Rattle.keys.specs.Keys.{keyPlace, isPair, offers, keyRefusal, retireRefusal, reportOf};
+ghost use Rattle.keys.specs.Stored.{mostPairs, padded, noPair, blankKey, keyOf, keysOf, storedKey, storedKeys, keysFrom, keysRead, oneMore, usedState, retiredState, changedState, storedReports};
 use algorithms::Aead;
 use algorithms::Kdf;
 use algorithms::is_known_pair;
@@ -53,4 +54,266 @@ pub struct KeyReport {
     pub id: KeyId,
     pub count: u32,
     pub retired: bool,
+}
+
+impl KeyState {
+    // What stands where there is no key.
+    fn blank() -> Self
+        ensures { λ r. ⌜ r ≡ blankKey ⌝ }
+    {
+        KeyState {
+            count: 0,
+            kem: 0,
+            id: KeyId(0),
+            retired: 0,
+            pair_count: 0,
+            pairs: [Pair { kdf: 0, aead: 0 }; MOST_PAIRS],
+        }
+    }
+
+    // The pair is known and listed for the key.
+    fn offers(self, kdf: u16, aead: u16) -> bool
+        ensures { λ r. ⌜ r ≡ offers kdf aead (keyOf self) ⌝ }
+    {
+        if !is_known_pair(Kdf(kdf), Aead(aead)) {
+            return false;
+        }
+        let count = self.pair_count as usize;
+        let pairs = self.pairs;
+        let mut at = 0;
+        while at < MOST_PAIRS {
+            if count <= at {
+                return false;
+            }
+            if is_pair(pairs[at], kdf, aead) {
+                return true;
+            }
+            at += 1;
+        }
+        false
+    }
+
+    fn report(self) -> KeyReport
+        ensures { λ r. ⌜ r ≡ reportOf (keyOf self) ⌝ }
+    {
+        let id = self.id;
+        KeyReport {
+            id,
+            count: self.count,
+            retired: self.retired != 0,
+        }
+    }
+}
+
+// Both numbers are those of the pair.
+fn is_pair(pair: Pair, kdf: u16, aead: u16) -> bool
+    ensures { λ r. ⌜ r ≡ isPair kdf aead pair ⌝ }
+{
+    if pair.kdf == kdf {
+        pair.aead == aead
+    } else {
+        false
+    }
+}
+
+impl Keys {
+    // No keys.
+    pub fn none() -> Self
+        ensures { λ r. ⌜ r ≡ storedKeys [] ⌝ }
+    {
+        Keys {
+            list: [KeyState::blank(); MOST_CONFIGURATIONS],
+            count: 0,
+        }
+    }
+
+    // The keys of a list, none of them used or retired.
+    pub fn read(list: &[u8]) -> KeysRead
+        ensures { λ r. ⌜ r ≡ keysRead (parse (now (list .entry))) ⌝ }
+    {
+        let checked = check(list);
+        match checked {
+            Checked::Good(count) => KeysRead {
+                keys: read_good(list),
+                checked: Checked::Good(count),
+            },
+            Checked::Refused(refusal) => KeysRead {
+                keys: Keys::none(),
+                checked: Checked::Refused(refusal),
+            },
+        }
+    }
+
+    // The place of the key with an id; the number of keys where none has it.
+    pub fn find(self, id: KeyId) -> usize
+        ensures { λ r. ⌜ r ≡ keyPlace (id .0) (keysOf self) ⌝ }
+    {
+        let count = self.count as usize;
+        let list = self.list;
+        let mut at = 0;
+        while at < MOST_CONFIGURATIONS {
+            if count <= at {
+                return at;
+            }
+            if list[at].id.0 == id.0 {
+                return at;
+            }
+            at += 1;
+        }
+        at
+    }
+
+    // There is a key at the place.
+    fn has(self, place: usize) -> bool
+        ensures { λ r. ⌜ r ≡ ltb place (length (keysOf self)) ⌝ }
+    {
+        if MOST_CONFIGURATIONS <= place {
+            return false;
+        }
+        place < (self.count as usize)
+    }
+
+    // The first refusal of a request that the key at a place decides, 0 where there is none.
+    pub fn refusal(self, place: usize, cap: u32, request: Request) -> u8
+        ensures { λ r. ⌜ r ≡ keyRefusal cap (keysOf self) place request ⌝ }
+    {
+        if !self.has(place) {
+            return Refusal::NO_SUCH_KEY;
+        }
+        let key = self.list[place];
+        if key.kem != request.kem {
+            return Refusal::OTHER_KEM;
+        }
+        if !key.offers(request.kdf, request.aead) {
+            return Refusal::PAIR_NOT_OFFERED;
+        }
+        if key.retired != 0 {
+            return Refusal::KEY_RETIRED;
+        }
+        if cap <= key.count {
+            return Refusal::KEY_USED_UP;
+        }
+        0
+    }
+
+    // The first refusal to retire the key at a place, 0 where there is none.
+    pub fn retire_refusal(self, place: usize) -> u8
+        ensures { λ r. ⌜ r ≡ retireRefusal (keysOf self) place ⌝ }
+    {
+        if !self.has(place) {
+            return Refusal::NO_SUCH_KEY;
+        }
+        if self.list[place].retired != 0 {
+            return Refusal::KEY_RETIRED;
+        }
+        0
+    }
+
+    // The keys after one use more of the key at a place.
+    pub fn used(self, place: usize) -> Self
+        ensures { λ r. ⌜ r ≡ changedState usedState place self ⌝ }
+    {
+        let mut next = self;
+        if place < MOST_CONFIGURATIONS {
+            let mut key = next.list[place];
+            key.count = one_more(key.count);
+            next.list[place] = key;
+        }
+        next
+    }
+
+    // The keys with the one at a place retired.
+    pub fn retired(self, place: usize) -> Self
+        ensures { λ r. ⌜ r ≡ changedState retiredState place self ⌝ }
+    {
+        let mut next = self;
+        if place < MOST_CONFIGURATIONS {
+            let mut key = next.list[place];
+            key.retired = 1;
+            next.list[place] = key;
+        }
+        next
+    }
+
+    // The keys as report shows them.
+    pub fn report(self) -> [KeyReport; MOST_CONFIGURATIONS]
+        ensures { λ r. ⌜ r ≡ storedReports (keysOf self) ⌝ }
+    {
+        let count = self.count as usize;
+        let list = self.list;
+        let blank = KeyReport {
+            id: KeyId(0),
+            count: 0,
+            retired: false,
+        };
+        let mut reports = [blank; MOST_CONFIGURATIONS];
+        let mut at = 0;
+        while at < MOST_CONFIGURATIONS {
+            if at < count {
+                reports[at] = list[at].report();
+            }
+            at += 1;
+        }
+        reports
+    }
+}
+
+// One more, unless the number is the largest.
+fn one_more(count: u32) -> u32
+    ensures { λ r. ⌜ r ≡ oneMore 32 count ⌝ }
+{
+    if count < u32::MAX { count + 1 } else { count }
+}
+
+// The keys of a list that was checked, which is why it may ask for a good one.
+fn read_good(list: &[u8]) -> Keys
+    requires { ⌜ IsGood (now list) ⌝ }
+    ensures { λ r. ⌜ r ≡ keysFrom (parse (now (list .entry))) ⌝ }
+{
+    let mut keys = Keys::none();
+    let mut count = 0;
+    let mut at = 0;
+    while at < list.len() {
+        keys.list[count] = key_at(list, at);
+        count += 1;
+        at = place_at(list, at).end;
+    }
+    keys.count = count as u8;
+    keys
+}
+
+// The key of the configuration at an offset. It keeps the layout's rules, as all of a good list do.
+fn key_at(list: &[u8], at: usize) -> KeyState
+    requires { ⌜ layoutHolds (now list) at ≡ true ⌝ }
+    ensures { λ r. ⌜ r ≡ storedKey (configurationAt (now (list .entry)) at) ⌝ }
+{
+    let place = place_at(list, at);
+    let count = (word_at(list, place.key_end) as usize) / 4;
+    KeyState {
+        count: 0,
+        kem: place.kem,
+        id: KeyId(place.key_id),
+        retired: 0,
+        pair_count: count as u8,
+        pairs: pairs_at(list, place.key_end + 2, count),
+    }
+}
+
+// So many pairs from an offset, one after the other. They lie in the list, as those of a good configuration do.
+fn pairs_at(list: &[u8], from: usize, count: usize) -> [Pair; MOST_PAIRS]
+    requires inside { ⌜ from + count * 4 ≤ length (now list) ⌝ }
+    requires few { ⌜ count ≤ mostPairs ⌝ }
+    ensures { λ r. ⌜ r ≡ padded mostPairs noPair (pairsAt count (now (list .entry)) from) ⌝ }
+{
+    let mut pairs = [Pair { kdf: 0, aead: 0 }; MOST_PAIRS];
+    let mut done = 0;
+    while done < count {
+        let at = from + done * 4;
+        pairs[done] = Pair {
+            kdf: word_at(list, at),
+            aead: word_at(list, at + 2),
+        };
+        done += 1;
+    }
+    pairs
 }

@@ -1,0 +1,38 @@
+-- 01's starred edges, computed.
+-- Assumes nothing.
+use mathlib.Core.Path.{refl}
+use Rattle.wire.specs.Texts.{ascii, requestLabel}
+use Rattle.wire.specs.Search.{firstPlace, anyPasses}
+use Rattle.algorithms.specs.Table.{table, rowOf}
+use Rattle.algorithms.specs.Sizes.{knownKem, knownKdf, knownAead, encLength, publicKeyLength, keyLength}
+use Rattle.keylist.specs.Layout.{parse, parseFrom, layoutHolds, configurationAt, pairsAt}
+use Rattle.keylist.specs.Edges.{hex, edgeList}
+use Rattle.keylist.proofs.Edges.{list-edges}
+use Rattle.exchange.specs.Request.{requestRefusal}
+use Rattle.exchange.specs.Steps.{refusal, respondRefusal, next, answer, buffer}
+use Rattle.keys.specs.Keys.{keyRefusal, retireRefusal}
+use Rattle.keys.specs.Stored.{keysOf, storedKeys}
+use Rattle.gateway.specs.Head.{admitRefusal}
+use Rattle.gateway.specs.Gateway.{freePlace, pendingIn}
+use Rattle.gateway.specs.Calls.{gatewayDoes, number}
+use Rattle.book.specs.History.{trace, final, admissionsOf}
+use Rattle.book.specs.Counts.{ticketsGiven}
+use Rattle.book.specs.Edges.{GatewayEdges}
+
+pub gateway-edges : GatewayEdges
+unfolding ascii requestLabel firstPlace anyPasses table rowOf knownKem knownKdf knownAead encLength publicKeyLength keyLength parse parseFrom layoutHolds configurationAt pairsAt hex edgeList requestRefusal refusal respondRefusal next answer buffer keyRefusal retireRefusal keysOf storedKeys admitRefusal freePlace pendingIn gatewayDoes number trace final admissionsOf ticketsGiven
+gateway-edges =
+    record {
+      lists = list-edges;
+      emptyRequest = refl;
+      bytes54 = refl;
+      bytes55 = refl;
+      otherPair = refl;
+      otherKem = refl;
+      capTwo = refl;
+      tickets = refl;
+      count = refl;
+      lastTicket = refl;
+      nonePending = refl;
+      openLength = refl;
+    }

@@ -1,0 +1,61 @@
+-- Lists of calls, each of which gets the state that the one before returned: what each gave, and the state at the end.
+use Prim.Native.Nat.{ℕ}
+use mathlib.Core.Bool.{Bool}
+use mathlib.Core.List.{List, [], _∷_, map}
+use lib.Dec.{eqb}
+use Rattle.wire.specs.Tests.{pick}
+use Rattle.keylist.specs.Layout.{parse}
+use Rattle.gateway.specs.declared.Gateway.{Gateway}
+use Rattle.gateway.specs.declared.AdmitAnswer.{AdmitAnswer}
+use Rattle.gateway.specs.declared.admission.Admission.{Admission}
+use Rattle.gateway.specs.Gateway.{freshGateway}
+use Rattle.gateway.specs.Calls.{Call, Answer, Done, number, toAdmit, toRetire, toStep, toReport, gatewayDoes}
+
+-- a call, its answer, and its buffer's bytes after it
+pub record Event : Type 0 where
+  pub call : Call
+  pub answer : Answer
+  pub buffer : List ℕ
+
+abbrev pub event : {State : Type 0} → Call → Done State → Event
+event call done = record { call = call; answer = done .answer; buffer = done .buffer }
+
+module _ {State : Type 0} (does : State → Call → Done State) where
+  unfoldable pub trace : State → List Call → List Event
+  trace s [] = []
+  trace s (call ∷ calls) = event call (does s call) ∷ trace (does s call .state) calls
+
+  unfoldable pub final : State → List Call → State
+  final s [] = s
+  final s (call ∷ calls) = final (does s call .state) calls
+
+-- the events that pass a test, in their order
+unfoldable pub those : (Event → Bool) → List Event → List Event
+those test [] = []
+those test (e ∷ es) = pick (test e) (e ∷ those test es) (those test es)
+
+-- from the gateway that setup handed back, after a refused setup too
+abbrev pub gatewayTrace : List ℕ → ℕ → List Call → List Event
+gatewayTrace list cap calls = trace gatewayDoes (freshGateway (parse list) cap) calls
+
+abbrev pub gatewayAfter : List ℕ → ℕ → List Call → Gateway
+gatewayAfter list cap calls = final gatewayDoes (freshGateway (parse list) cap) calls
+
+-- answered without a refusal number
+abbrev pub isAccepted : Event → Bool
+isAccepted e = eqb (number (e .answer)) 0
+
+-- the admission that an answer gives; none where it is not that of an accepted admit
+unfoldable pub admissionsOf : Answer → List Admission
+admissionsOf (toAdmit (AdmitAnswer.Admitted a)) = a ∷ []
+admissionsOf (toAdmit (AdmitAnswer.Refused r)) = []
+admissionsOf (toRetire r) = []
+admissionsOf (toStep r) = []
+admissionsOf (toReport r) = []
+
+-- its ticket and its key id
+abbrev pub ticketsOf : Answer → List ℕ
+ticketsOf answer = map (λ (a : Admission). a .ticket .0) (admissionsOf answer)
+
+abbrev pub keyIdsOf : Answer → List ℕ
+keyIdsOf answer = map (λ (a : Admission). a .«key_id» .0) (admissionsOf answer)

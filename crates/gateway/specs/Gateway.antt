@@ -1,0 +1,82 @@
+-- The gateway's state after each call. What it answers is in `Head` and in exchange's `Steps`.
+use Prim.Native.Nat.{ℕ}
+use mathlib.Core.Bool.{Bool}
+use mathlib.Core.List.{List, [], _∷_}
+use lib.Dec.{leb}
+use lib.ListN.{length, set, replicate}
+use Rattle.wire.specs.Tests.{pick}
+use Rattle.wire.specs.Search.{firstPlace}
+use Rattle.keylist.specs.Layout.{Configuration, Outcome, good, bad}
+use Rattle.exchange.specs.declared.Exchange.{Exchange}
+use Rattle.exchange.specs.Request.{keyIdOf, fieldsOf}
+use Rattle.exchange.specs.Exchange.{free, isFree, hasTicket, exchangeOf, asked}
+use Rattle.exchange.specs.Steps.{Step, after}
+use Rattle.keys.specs.declared.Keys.{Keys}
+use Rattle.keys.specs.Keys.{keyPlace}
+use Rattle.keys.specs.Stored.{keysOf, storedKeys, oneMore, usedState, retiredState, changedState}
+use Rattle.gateway.specs.declared.Gateway.{Gateway}
+use Rattle.gateway.specs.Head.{Head, capHolds}
+
+-- the places of the table
+abbrev pub tableSize : ℕ
+tableSize = 128
+
+-- a gateway of these keys, with all places free
+abbrev pub emptyGateway : ℕ → Keys → Gateway
+emptyGateway cap keys = record { «last_ticket» = record { 0 = 0 }; cap = cap; keys = keys; table = replicate tableSize free }
+
+-- after setup; a refused one hands back a gateway without keys, cap 1, last ticket 0
+abbrev pub freshGateway : Outcome (List Configuration) → ℕ → Gateway
+freshGateway (good cs) cap = pick (capHolds cap) (emptyGateway cap (storedKeys cs)) (emptyGateway 1 (storedKeys []))
+freshGateway (bad r) cap = emptyGateway 1 (storedKeys [])
+
+-- cap, last ticket and keys of a gateway
+abbrev pub headOf : Gateway → Head
+headOf g = record { cap = g .cap; lastTicket = g .«last_ticket» .0; keys = keysOf (g .keys) }
+
+-- the pending exchanges of a table
+unfoldable pub pendingIn : List Exchange → List Exchange
+pendingIn [] = []
+pendingIn (e ∷ es) = pick (isFree e) (pendingIn es) (e ∷ pendingIn es)
+
+-- 01's open point, the place of a new exchange in the table; nothing but `PlaceIsFree` is used of it
+unfoldable pub freePlace : List Exchange → ℕ
+freePlace table = firstPlace isFree table
+
+-- no place is free
+abbrev pub isFull : List Exchange → Bool
+isFull table = leb (length table) (freePlace table)
+
+-- the next ticket
+abbrev pub nextTicket : Gateway → ℕ
+nextTicket g = oneMore 64 (g .«last_ticket» .0)
+
+-- after an accepted admit: its key has one use more, its ticket is the last one, and the exchange is in the table, asked
+abbrev pub admitted : List ℕ → Gateway → Gateway
+admitted request g =
+    record {
+      «last_ticket» = record { 0 = nextTicket g };
+      cap = g .cap;
+      keys = changedState usedState (keyPlace (keyIdOf request) (keysOf (g .keys))) (g .keys);
+      table = set (g .table) (freePlace (g .table)) (asked (nextTicket g) (fieldsOf request));
+    }
+
+-- after an accepted retire
+abbrev pub retiredGateway : ℕ → Gateway → Gateway
+retiredGateway id g =
+    record {
+      «last_ticket» = g .«last_ticket»;
+      cap = g .cap;
+      keys = changedState retiredState (keyPlace id (keysOf (g .keys))) (g .keys);
+      table = g .table;
+    }
+
+-- with an exchange at a place of the table
+abbrev pub withExchange : ℕ → Exchange → Gateway → Gateway
+withExchange place e g =
+    record { «last_ticket» = g .«last_ticket»; cap = g .cap; keys = g .keys; table = set (g .table) place e }
+
+-- after a call on a ticket: in the place of its exchange stands what the call leaves of it
+abbrev pub stepped : ℕ → Step → Gateway → Gateway
+stepped ticket step g =
+    withExchange (firstPlace (hasTicket ticket) (g .table)) (after step (exchangeOf ticket (g .table))) g

@@ -1,0 +1,130 @@
+// What admit decides and answers.
+ghost use mathlib.Core.Path.{_≡_};
+ghost use mathlib.Core.List.{List};
+ghost use lib.Dec.{leb, ltb};
+ghost use lib.ListN.{length};
+ghost use Rattle.wire.specs.Refusals.{_when_otherwise_};
+ghost use Rattle.wire.specs.Texts.{infoLength};
+ghost use Rattle.keys.specs.Stored.{oneMore};
+ghost use Rattle.gateway.specs.Head.{_orElse_, statusOf, isKeyProblem, rejection, admission};
+ghost use Rattle.gateway.specs.Gateway.{tableSize};
+use crate::table::TABLE_SIZE;
+use exchange::Ticket;
+use exchange::request::Request;
+use keylist::KeyId;
+use wire::refusal::Refusal;
+use wire::texts;
+
+// An admitted request: its ticket, its key, its pair, and where its parts start and end.
+pub struct Admission {
+    pub ticket: Ticket,
+    pub key_id: KeyId,
+    pub kdf: u16,
+    pub aead: u16,
+    pub enc_start: usize,
+    pub enc_end: usize,
+    pub ciphertext_start: usize,
+    pub ciphertext_end: usize,
+}
+
+// A refusal of admit: its number, the status of the unprotected answer, and whether that is an ohttp-key problem
+// (RFC 9458, 5.3).
+pub struct Rejection {
+    pub number: u8,
+    pub status: u16,
+    pub key_problem: bool,
+}
+
+impl Admission {
+    pub fn of(ticket: Ticket, request: Request, length: usize) -> Self
+        ensures { λ r. ⌜ r ≡ admission (ticket .0) request length ⌝ }
+    {
+        let key_id = request.key_id;
+        Admission {
+            ticket,
+            key_id,
+            kdf: request.kdf,
+            aead: request.aead,
+            enc_start: texts::HEAD_LENGTH,
+            enc_end: request.enc_end,
+            ciphertext_start: request.enc_end,
+            ciphertext_end: length,
+        }
+    }
+}
+
+impl Rejection {
+    // HTTP statuses.
+    pub const BAD_REQUEST: u16 = 400;
+
+    pub const CONTENT_TOO_LARGE: u16 = 413;
+
+    pub const INTERNAL_SERVER_ERROR: u16 = 500;
+
+    pub const SERVICE_UNAVAILABLE: u16 = 503;
+
+    pub fn of(number: u8) -> Self
+        ensures { λ r. ⌜ r ≡ rejection number ⌝ }
+    {
+        Rejection {
+            number,
+            status: status(number),
+            key_problem: is_key_problem(number),
+        }
+    }
+}
+
+fn status(number: u8) -> u16
+    ensures { λ r. ⌜ r ≡ statusOf number ⌝ }
+{
+    if number == Refusal::TOO_LONG {
+        return Rejection::CONTENT_TOO_LARGE;
+    }
+    if number == Refusal::TABLE_FULL {
+        return Rejection::SERVICE_UNAVAILABLE;
+    }
+    if number == Refusal::NO_ROOM {
+        return Rejection::INTERNAL_SERVER_ERROR;
+    }
+    Rejection::BAD_REQUEST
+}
+
+fn is_key_problem(number: u8) -> bool
+    ensures { λ r. ⌜ r ≡ isKeyProblem number ⌝ }
+{
+    if number < Refusal::NO_SUCH_KEY {
+        return false;
+    }
+    number <= Refusal::KEY_USED_UP
+}
+
+// The first refusal: of the request, of its key, of the place in the table, of the room for info.
+pub fn refusal(by_request: u8, by_key: u8, place: usize, room: usize) -> u8
+    ensures { λ r. ⌜ r ≡ («by_request» orElse «by_key» orElse
+        9 when leb tableSize place otherwise 14 when ltb room infoLength otherwise 0) ⌝ }
+{
+    if by_request != 0 {
+        return by_request;
+    }
+    if by_key != 0 {
+        return by_key;
+    }
+    if TABLE_SIZE <= place {
+        return Refusal::TABLE_FULL;
+    }
+    if room < texts::INFO_LENGTH {
+        return Refusal::NO_ROOM;
+    }
+    0
+}
+
+// The ticket after the last one, which stays where it is the largest.
+pub fn next_ticket(last: Ticket) -> Ticket
+    ensures { λ r. ⌜ r ≡ record { 0 = oneMore 64 (last .0) } ⌝ }
+{
+    if last.0 < u64::MAX {
+        Ticket(last.0 + 1)
+    } else {
+        last
+    }
+}

@@ -1,0 +1,288 @@
+// The gateway (01, "What the box does"): setup and the six calls. Each call takes the gateway and hands it back with the answer; a
+// refusal hands it back as it was. Every entry has an answer for every gateway and every argument.
+ghost use mathlib.Core.Path.{_≡_};
+ghost use mathlib.Core.List.{[]};
+ghost use Rattle.keylist.specs.Layout.{parse};
+ghost use Rattle.exchange.specs.Steps.{openResult, respond, abandon, toOpen, toRespond, toAbandon};
+ghost use Rattle.keys.specs.Stored.{storedKeys};
+ghost use Rattle.gateway.specs.declared.SetupAnswer.{SetupAnswer};
+ghost use Rattle.gateway.specs.Head.{setupAnswer};
+ghost use Rattle.gateway.specs.Gateway.{emptyGateway, freshGateway, withExchange};
+ghost use Rattle.gateway.specs.Calls.{admit, retire, onTicket, reporting, toAdmit, toRetire, toStep, toReport, gatewayDoes};
+use crate::admission::Admission;
+use crate::admission::Rejection;
+use crate::admission::next_ticket;
+use crate::table::TABLE_SIZE;
+use crate::table::at;
+use crate::table::count_pending;
+use crate::table::find;
+use crate::table::free_place;
+use exchange::AbandonAnswer;
+use exchange::Exchange;
+use exchange::OpenAnswer;
+use exchange::RespondAnswer;
+use exchange::Ticket;
+use exchange::request;
+use keylist::Checked;
+use keylist::KeyId;
+use keylist::check::MOST_CONFIGURATIONS;
+use keys::KeyReport;
+use keys::Keys;
+use wire::bytes::overwrite;
+use wire::refusal::Refusal;
+
+pub mod admission;
+pub mod table;
+
+// The uses of a key that setup may allow are 1 up to this number.
+pub const MOST_USES: u64 = 1000000000;
+
+// The gateway's state. A host may hold it in its own memory, and must not write it.
+#[repr(C)]
+pub struct Gateway {
+    pub last_ticket: Ticket,
+    pub cap: u32,
+    pub keys: Keys,
+    pub table: [Exchange; TABLE_SIZE],
+}
+
+// The number of keys, or the refusal.
+pub enum SetupAnswer {
+    Ready(usize),
+    Refused(Refusal),
+}
+
+pub enum AdmitAnswer {
+    Admitted(Admission),
+    Refused(Rejection),
+}
+
+pub enum RetireAnswer {
+    Retired,
+    Refused(Refusal),
+}
+
+// Last ticket, number pending, and the keys in list order, first in `keys`.
+pub struct Report {
+    pub last_ticket: Ticket,
+    pub pending: usize,
+    pub key_count: usize,
+    pub keys: [KeyReport; MOST_CONFIGURATIONS],
+}
+
+// The gateway after a call, with the answer.
+pub struct AfterSetup {
+    pub gateway: Gateway,
+    pub answer: SetupAnswer,
+}
+
+pub struct AfterAdmit {
+    pub gateway: Gateway,
+    pub answer: AdmitAnswer,
+}
+
+pub struct AfterOpen {
+    pub gateway: Gateway,
+    pub answer: OpenAnswer,
+}
+
+pub struct AfterRespond {
+    pub gateway: Gateway,
+    pub answer: RespondAnswer,
+}
+
+pub struct AfterAbandon {
+    pub gateway: Gateway,
+    pub answer: AbandonAnswer,
+}
+
+pub struct AfterRetire {
+    pub gateway: Gateway,
+    pub answer: RetireAnswer,
+}
+
+impl Gateway {
+    // A fresh gateway of a key list and a cap, or the refusal and the gateway without keys.
+    pub fn setup(list: &[u8], cap: u64) -> AfterSetup
+        ensures gateway { λ r. ⌜ r .gateway ≡ freshGateway (parse (now (list .entry))) cap ⌝ }
+        ensures answer { λ r. ⌜ r .answer ≡ setupAnswer (parse (now (list .entry))) cap ⌝ }
+    {
+        let read = Keys::read(list);
+        let checked = read.checked;
+        match checked {
+            Checked::Good(count) => {
+                if cap < 1 {
+                    return refused_setup(Refusal::of(Refusal::CAP_OUT_OF_RANGE));
+                }
+                if MOST_USES < cap {
+                    return refused_setup(Refusal::of(Refusal::CAP_OUT_OF_RANGE));
+                }
+                let keys = read.keys;
+                AfterSetup {
+                    gateway: empty(cap as u32, keys),
+                    answer: SetupAnswer::Ready(count),
+                }
+            }
+            Checked::Refused(refusal) => refused_setup(refusal),
+        }
+    }
+
+    // Admit: counts the use, gives the next ticket and writes info at the front of its buffer.
+    pub fn admit(self, request: &[u8], info: &mut [u8]) -> AfterAdmit
+        ensures gateway { λ r. ⌜ r .gateway ≡ gatewayDoes self (admit (now (request .entry)) (now (info .entry))) .state ⌝ }
+        ensures answer { λ r. ⌜ toAdmit (r .answer) ≡ gatewayDoes self (admit (now (request .entry)) (now (info .entry))) .answer ⌝ }
+        ensures buffer { λ r. ⌜ now (info .exit) ≡ gatewayDoes self (admit (now (request .entry)) (now (info .entry))) .buffer ⌝ }
+    {
+        let parsed = request::read(request);
+        let fields = parsed.request;
+        let keys = self.keys;
+        let key_id = fields.key_id;
+        let key = keys.find(key_id);
+        let place = free_place(self.table);
+        let by_key = keys.refusal(key, self.cap, fields);
+        let number = admission::refusal(parsed.refusal, by_key, place, info.len());
+        if number != 0 {
+            return AfterAdmit {
+                gateway: self,
+                answer: AdmitAnswer::Refused(Rejection::of(number)),
+            };
+        }
+        let front = request::info(request);
+        overwrite(info, 0, &front);
+        let ticket = next_ticket(self.last_ticket);
+        let mut next = self;
+        next.last_ticket = ticket;
+        next.keys = keys.used(key);
+        next.table[place] = Exchange::asked(ticket, fields);
+        AfterAdmit {
+            gateway: next,
+            answer: AdmitAnswer::Admitted(Admission::of(ticket, fields, request.len())),
+        }
+    }
+
+    // Open result: opened, or on failure closed with the unprotected status.
+    pub fn open_result(self, ticket: Ticket, success: bool, n: u64) -> AfterOpen
+        ensures gateway { λ r. ⌜ r .gateway ≡ gatewayDoes self (onTicket (ticket .0) (openResult success n)) .state ⌝ }
+        ensures answer { λ r. ⌜ toStep (toOpen (r .answer)) ≡ gatewayDoes self (onTicket (ticket .0) (openResult success n)) .answer ⌝ }
+    {
+        let place = find(self.table, ticket);
+        let moved = at(self.table, place).open_result(success, n);
+        let exchange = moved.exchange;
+        let answer = moved.answer;
+        AfterOpen {
+            gateway: with_exchange(self, place, exchange),
+            answer,
+        }
+    }
+
+    // Respond: the salt is written at the front of its buffer, and the exchange is closed.
+    pub fn respond(
+        self,
+        ticket: Ticket,
+        enc: &[u8],
+        nonce: &[u8],
+        plain: u64,
+        salt: &mut [u8],
+    ) -> AfterRespond
+        ensures gateway { λ r. ⌜ r .gateway ≡ gatewayDoes self
+            (onTicket (ticket .0) (respond (now (enc .entry)) (now (nonce .entry)) plain (now (salt .entry)))) .state ⌝ }
+        ensures answer { λ r. ⌜ toStep (toRespond (r .answer)) ≡ gatewayDoes self
+            (onTicket (ticket .0) (respond (now (enc .entry)) (now (nonce .entry)) plain (now (salt .entry)))) .answer ⌝ }
+        ensures buffer { λ r. ⌜ now (salt .exit) ≡ gatewayDoes self
+            (onTicket (ticket .0) (respond (now (enc .entry)) (now (nonce .entry)) plain (now (salt .entry)))) .buffer ⌝ }
+    {
+        let place = find(self.table, ticket);
+        let moved = at(self.table, place).respond(enc, nonce, plain, salt);
+        let exchange = moved.exchange;
+        let answer = moved.answer;
+        AfterRespond {
+            gateway: with_exchange(self, place, exchange),
+            answer,
+        }
+    }
+
+    // Abandon: closed, and no reply is sent.
+    pub fn abandon(self, ticket: Ticket) -> AfterAbandon
+        ensures gateway { λ r. ⌜ r .gateway ≡ gatewayDoes self (onTicket (ticket .0) abandon) .state ⌝ }
+        ensures answer { λ r. ⌜ toStep (toAbandon (r .answer)) ≡ gatewayDoes self (onTicket (ticket .0) abandon) .answer ⌝ }
+    {
+        let place = find(self.table, ticket);
+        let moved = at(self.table, place).abandon();
+        let exchange = moved.exchange;
+        let answer = moved.answer;
+        AfterAbandon {
+            gateway: with_exchange(self, place, exchange),
+            answer,
+        }
+    }
+
+    // Retire: later admissions refuse the key; pending exchanges go on.
+    pub fn retire(self, id: KeyId) -> AfterRetire
+        ensures gateway { λ r. ⌜ r .gateway ≡ gatewayDoes self (retire (id .0)) .state ⌝ }
+        ensures answer { λ r. ⌜ toRetire (r .answer) ≡ gatewayDoes self (retire (id .0)) .answer ⌝ }
+    {
+        let keys = self.keys;
+        let place = keys.find(id);
+        let number = keys.retire_refusal(place);
+        if number != 0 {
+            return AfterRetire {
+                gateway: self,
+                answer: RetireAnswer::Refused(Refusal::of(number)),
+            };
+        }
+        let mut next = self;
+        next.keys = keys.retired(place);
+        AfterRetire {
+            gateway: next,
+            answer: RetireAnswer::Retired,
+        }
+    }
+
+    // Report: last ticket, number pending, and each key's count and retirement.
+    pub fn report(self) -> Report
+        ensures { λ r. ⌜ toReport r ≡ gatewayDoes self reporting .answer ⌝ }
+    {
+        let keys = self.keys;
+        let last_ticket = self.last_ticket;
+        Report {
+            last_ticket,
+            pending: count_pending(self.table),
+            key_count: keys.number(),
+            keys: keys.report(),
+        }
+    }
+}
+
+// A gateway of these keys, with all places free.
+fn empty(cap: u32, keys: Keys) -> Gateway
+    ensures { λ r. ⌜ r ≡ emptyGateway cap keys ⌝ }
+{
+    Gateway {
+        last_ticket: Ticket(0),
+        cap,
+        keys,
+        table: [Exchange::free(); TABLE_SIZE],
+    }
+}
+
+// The gateway without keys, with the refusal.
+fn refused_setup(refusal: Refusal) -> AfterSetup
+    ensures gateway { λ r. ⌜ r .gateway ≡ emptyGateway 1 (storedKeys []) ⌝ }
+    ensures answer { λ r. ⌜ r .answer ≡ SetupAnswer.Refused refusal ⌝ }
+{
+    AfterSetup {
+        gateway: empty(1, Keys::none()),
+        answer: SetupAnswer::Refused(refusal),
+    }
+}
+
+// The gateway with an exchange at a place of the table; as it was where there is no such place.
+fn with_exchange(gateway: Gateway, place: usize, exchange: Exchange) -> Gateway
+    ensures { λ r. ⌜ r ≡ withExchange place exchange gateway ⌝ }
+{
+    let mut next = gateway;
+    if place < TABLE_SIZE {
+        next.table[place] = exchange;
+    }
+    next
+}

@@ -1,0 +1,67 @@
+// The table of pending exchanges.
+ghost use mathlib.Core.Path.{_≡_};
+ghost use lib.ListN.{length, getD};
+ghost use Rattle.wire.specs.Search.{firstPlace};
+ghost use Rattle.exchange.specs.Exchange.{free, hasTicket};
+ghost use Rattle.gateway.specs.Gateway.{freePlace, pendingIn};
+use exchange::Exchange;
+use exchange::Ticket;
+
+// The places of the table.
+pub const TABLE_SIZE: usize = 128;
+
+// The place for a new exchange; the table's size where none is free.
+pub fn free_place(table: [Exchange; TABLE_SIZE]) -> usize
+    ensures { λ r. ⌜ r ≡ freePlace table ⌝ }
+{
+    let mut at = 0;
+    while at < TABLE_SIZE {
+        if table[at].ticket.0 == 0 {
+            return at;
+        }
+        at += 1;
+    }
+    at
+}
+
+// The place of the pending exchange with a ticket; the table's size where none has it.
+pub fn find(table: [Exchange; TABLE_SIZE], ticket: Ticket) -> usize
+    ensures { λ r. ⌜ r ≡ firstPlace (hasTicket (ticket .0)) table ⌝ }
+{
+    if ticket.0 == 0 {
+        return TABLE_SIZE;
+    }
+    let mut at = 0;
+    while at < TABLE_SIZE {
+        if table[at].ticket.0 == ticket.0 {
+            return at;
+        }
+        at += 1;
+    }
+    at
+}
+
+// The number of pending exchanges.
+pub fn count_pending(table: [Exchange; TABLE_SIZE]) -> usize
+    ensures { λ r. ⌜ r ≡ length (pendingIn table) ⌝ }
+{
+    let mut count = 0;
+    let mut at = 0;
+    while at < TABLE_SIZE {
+        if table[at].ticket.0 != 0 {
+            count += 1;
+        }
+        at += 1;
+    }
+    count
+}
+
+// The exchange at a place; a free one where there is no such place.
+pub fn at(table: [Exchange; TABLE_SIZE], place: usize) -> Exchange
+    ensures { λ r. ⌜ r ≡ getD table place free ⌝ }
+{
+    if place < TABLE_SIZE {
+        return table[place];
+    }
+    Exchange::free()
+}
