@@ -59,16 +59,16 @@ pub record GatewayEdges : Type 0 where
       ≡ record {
         call = asking goodRequest;
         answer =
-          toAdmit (AdmitAnswer.Admitted (record {
-            ticket = record { 0 = 1 };
-            «key_id» = record { 0 = 7 };
-            kdf = 1;
-            aead = 3;
-            «enc_start» = 7;
-            «enc_end» = 39;
-            «ciphertext_start» = 39;
-            «ciphertext_end» = 55;
-          }));
+            toAdmit (AdmitAnswer.Admitted (record {
+              ticket = record { 0 = 1 };
+              «key_id» = record { 0 = 7 };
+              kdf = 1;
+              aead = 3;
+              «enc_start» = 7;
+              «enc_end» = 39;
+              «ciphertext_start» = 39;
+              «ciphertext_end» = 55;
+            }));
         buffer = hex "6d6573736167652f626874747020726571756573740007002000010003a5";
       }
       ∷ []

@@ -1,1 +1,5 @@
 -- Laws that belong to no one function; other crates cite them.
+pub mod Answers
+pub mod Lengths
+pub mod Moves
+pub mod Requests

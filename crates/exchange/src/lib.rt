@@ -196,13 +196,14 @@ impl Exchange {
     pub fn asked(ticket: Ticket, request: Request) -> Self
         ensures { λ r. ⌜ r ≡ asked (ticket .0) request ⌝ }
     {
+        let key_id = request.key_id;
         Exchange {
             ticket,
             ciphertext_length: request.ciphertext_length,
             kem: request.kem,
             kdf: request.kdf,
             aead: request.aead,
-            key_id: request.key_id,
+            key_id,
             phase: Phase(Phase::ASKED),
         }
     }
@@ -210,13 +211,15 @@ impl Exchange {
     fn opened(self) -> Self
         ensures { λ r. ⌜ r ≡ opened self ⌝ }
     {
+        let ticket = self.ticket;
+        let key_id = self.key_id;
         Exchange {
-            ticket: self.ticket,
+            ticket,
             ciphertext_length: self.ciphertext_length,
             kem: self.kem,
             kdf: self.kdf,
             aead: self.aead,
-            key_id: self.key_id,
+            key_id,
             phase: Phase(Phase::OPENED),
         }
     }

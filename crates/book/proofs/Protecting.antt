@@ -1,0 +1,63 @@
+-- What goes out unprotected: a refused admit and a failed opening, and nothing after opening.
+-- Assumes nothing.
+use mathlib.Core.Path.{_≡_, refl, sym, _∙_}
+use mathlib.Core.Bool.{Bool, true, false}
+use mathlib.Core.List.{List}
+use Prim.Native.Nat.{ℕ, zero, suc, _≤_}
+use native.Mathlib.Omega.{arith}
+use borrow.Author.Tests.{eqb-true, ne-eqb}
+use lib.Dec.{eqb}
+use Rattle.wire.proofs.Booleans.{either}
+use Rattle.exchange.specs.declared.Exchange.{Exchange}
+use Rattle.exchange.specs.Exchange.{isFree, isAsked, isOpened, exchangeOf, askedPhase, openedPhase}
+use Rattle.exchange.specs.Steps.{Step, openResult, respond, abandon, refusal, openAnswer, toOpen, answer}
+use Rattle.gateway.specs.Head.{statusOf, admitAnswer}
+use Rattle.gateway.specs.Gateway.{nextTicket}
+use Rattle.gateway.specs.Calls.{toAdmit, toStep, unprotectedStatus, gatewayDoes, admitNumber}
+use Rattle.book.specs.History.{gatewayAfter}
+use Rattle.book.specs.OneCall.{Unprotected}
+use Rattle.book.proofs.Numbers.{admit-number, step-number}
+
+-- every refusal of admit has a status
+status-there : (n : ℕ) → 400 ≤ statusOf n
+status-there n =
+    either (eqb n 2) (λ e. rw e (omega arith))
+    (λ a. either (eqb n 9) (λ e. rw (a, e) (omega arith))
+    (λ b. either (eqb n 14) (λ e. rw (a, b, e) (omega arith)) (λ e. rw (a, b, e) (omega arith))))
+
+refused-status : (n ticket : ℕ) (request : List ℕ) → (n ≡ 0 → ⊥) → 400 ≤ unprotectedStatus (toAdmit (admitAnswer n ticket request))
+unfolding unprotectedStatus
+refused-status zero ticket request h = absurd (h refl)
+refused-status (suc n) ticket request h = status-there (suc n)
+
+failed-status : (n : ℕ) (e : Exchange) → refusal (openResult false n) e ≡ 0
+    → unprotectedStatus (toStep (answer (openResult false n) e)) ≡ 422
+unfolding unprotectedStatus answer
+failed-status n e z = rw z
+
+refused-opening : (n : ℕ) (success : Bool) → (n ≡ 0 → ⊥) → unprotectedStatus (toStep (toOpen (openAnswer n success))) ≡ 0
+unfolding unprotectedStatus
+refused-opening zero success h = absurd (h refl)
+refused-opening (suc n) success h = refl
+
+-- an opened exchange is not opened again
+opened-refuses : (success : Bool) (n : ℕ) (e : Exchange) → isOpened e ≡ true → refusal (openResult success n) e ≡ 0 → ⊥
+unfolding refusal
+opened-refuses success n e o z =
+    let other : isAsked e ≡ false = ne-eqb (e .phase .0) askedPhase (λ a. let p = eqb-true (e .phase .0) openedPhase o in omega arith) in
+    either (isFree e) (λ f. omega (arith, rw f at z)) (λ f. omega (arith, rw (f, other) at z))
+
+opened-silent : (step : Step) (e : Exchange) → isOpened e ≡ true → unprotectedStatus (toStep (answer step e)) ≡ 0
+unfolding answer unprotectedStatus
+opened-silent (openResult success n) e o = refused-opening _ success (opened-refuses success n e o)
+opened-silent (respond enc nonce plain salt) e o = refl
+opened-silent abandon e o = refl
+
+pub unprotected : Unprotected
+unfolding gatewayDoes
+unprotected =
+    record {
+      refusedAdmit = λ g request info h. refused-status (admitNumber request info g) (nextTicket g) request (λ z. h (admit-number (admitNumber request info g) (nextTicket g) request ∙ z));
+      failedOpening = λ g ticket n z. failed-status n (exchangeOf ticket (g .table)) (sym (step-number (openResult false n) (exchangeOf ticket (g .table))) ∙ z);
+      afterOpening = λ list cap made ticket step o. opened-silent step (exchangeOf ticket (gatewayAfter list cap made .table)) o;
+    }
