@@ -2,12 +2,13 @@
 // refusal hands it back as it was. Every entry has an answer for every gateway and every argument.
 ghost use mathlib.Core.Path.{_≡_};
 ghost use mathlib.Core.List.{[]};
+ghost use lib.ListN.{length};
 ghost use Rattle.keylist.specs.Layout.{parse};
 ghost use Rattle.exchange.specs.Steps.{openResult, respond, abandon, toOpen, toRespond, toAbandon};
 ghost use Rattle.keys.specs.Stored.{storedKeys};
 ghost use Rattle.gateway.specs.declared.SetupAnswer.{SetupAnswer};
 ghost use Rattle.gateway.specs.Head.{setupAnswer};
-ghost use Rattle.gateway.specs.Gateway.{emptyGateway, freshGateway, withExchange};
+ghost use Rattle.gateway.specs.Gateway.{tableSize, emptyGateway, freshGateway, withExchange};
 ghost use Rattle.gateway.specs.Calls.{admit, retire, onTicket, reporting, toAdmit, toRetire, toStep, toReport, gatewayDoes};
 use crate::admission::Admission;
 use crate::admission::Rejection;
@@ -138,7 +139,8 @@ impl Gateway {
         let keys = self.keys;
         let key_id = fields.key_id;
         let key = keys.find(key_id);
-        let place = free_place(self.table);
+        let table = self.table;
+        let place = free_place(table);
         let by_key = keys.refusal(key, self.cap, fields);
         let number = admission::refusal(parsed.refusal, by_key, place, info.len());
         if number != 0 {
@@ -149,7 +151,8 @@ impl Gateway {
         }
         let front = request::info(request);
         overwrite(info, 0, &front);
-        let ticket = next_ticket(self.last_ticket);
+        let last = self.last_ticket;
+        let ticket = next_ticket(last);
         let mut next = self;
         next.last_ticket = ticket;
         next.keys = keys.used(key);
@@ -165,8 +168,10 @@ impl Gateway {
         ensures gateway { λ r. ⌜ r .gateway ≡ gatewayDoes self (onTicket (ticket .0) (openResult success n)) .state ⌝ }
         ensures answer { λ r. ⌜ toStep (toOpen (r .answer)) ≡ gatewayDoes self (onTicket (ticket .0) (openResult success n)) .answer ⌝ }
     {
-        let place = find(self.table, ticket);
-        let moved = at(self.table, place).open_result(success, n);
+        let table = self.table;
+        let place = find(table, ticket);
+        let pending = at(table, place);
+        let moved = pending.open_result(success, n);
         let exchange = moved.exchange;
         let answer = moved.answer;
         AfterOpen {
@@ -191,8 +196,10 @@ impl Gateway {
         ensures buffer { λ r. ⌜ now (salt .exit) ≡ gatewayDoes self
             (onTicket (ticket .0) (respond (now (enc .entry)) (now (nonce .entry)) plain (now (salt .entry)))) .buffer ⌝ }
     {
-        let place = find(self.table, ticket);
-        let moved = at(self.table, place).respond(enc, nonce, plain, salt);
+        let table = self.table;
+        let place = find(table, ticket);
+        let pending = at(table, place);
+        let moved = pending.respond(enc, nonce, plain, salt);
         let exchange = moved.exchange;
         let answer = moved.answer;
         AfterRespond {
@@ -206,8 +213,10 @@ impl Gateway {
         ensures gateway { λ r. ⌜ r .gateway ≡ gatewayDoes self (onTicket (ticket .0) abandon) .state ⌝ }
         ensures answer { λ r. ⌜ toStep (toAbandon (r .answer)) ≡ gatewayDoes self (onTicket (ticket .0) abandon) .answer ⌝ }
     {
-        let place = find(self.table, ticket);
-        let moved = at(self.table, place).abandon();
+        let table = self.table;
+        let place = find(table, ticket);
+        let pending = at(table, place);
+        let moved = pending.abandon();
         let exchange = moved.exchange;
         let answer = moved.answer;
         AfterAbandon {
@@ -243,12 +252,14 @@ impl Gateway {
         ensures { λ r. ⌜ toReport r ≡ gatewayDoes self reporting .answer ⌝ }
     {
         let keys = self.keys;
+        let table = self.table;
         let last_ticket = self.last_ticket;
+        let reports = keys.report();
         Report {
             last_ticket,
-            pending: count_pending(self.table),
+            pending: count_pending(table),
             key_count: keys.number(),
-            keys: keys.report(),
+            keys: reports,
         }
     }
 }
@@ -257,11 +268,12 @@ impl Gateway {
 fn empty(cap: u32, keys: Keys) -> Gateway
     ensures { λ r. ⌜ r ≡ emptyGateway cap keys ⌝ }
 {
+    let table = [Exchange::free(); TABLE_SIZE];
     Gateway {
         last_ticket: Ticket(0),
         cap,
         keys,
-        table: [Exchange::free(); TABLE_SIZE],
+        table,
     }
 }
 
@@ -276,8 +288,10 @@ fn refused_setup(refusal: Refusal) -> AfterSetup
     }
 }
 
-// The gateway with an exchange at a place of the table; as it was where there is no such place.
+// The gateway with an exchange at a place of the table; as it was where there is no such place. It is told that the table has its
+// size, which every array has.
 fn with_exchange(gateway: Gateway, place: usize, exchange: Exchange) -> Gateway
+    requires { ⌜ length (gateway .table) ≡ tableSize ⌝ }
     ensures { λ r. ⌜ r ≡ withExchange place exchange gateway ⌝ }
 {
     let mut next = gateway;

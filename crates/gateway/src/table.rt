@@ -1,9 +1,11 @@
 // The table of pending exchanges.
 ghost use mathlib.Core.Path.{_≡_};
+ghost use mathlib.Core.List.{[], _∷_};
+ghost use Prim.Native.Nat.{_≤_};
 ghost use lib.ListN.{length, getD};
 ghost use Rattle.wire.specs.Search.{firstPlace};
 ghost use Rattle.exchange.specs.Exchange.{free, hasTicket};
-ghost use Rattle.gateway.specs.Gateway.{freePlace, pendingIn};
+ghost use Rattle.gateway.specs.Gateway.{tableSize, freePlace, pendingIn};
 use exchange::Exchange;
 use exchange::Ticket;
 
@@ -12,7 +14,8 @@ pub const TABLE_SIZE: usize = 128;
 
 // The place for a new exchange; the table's size where none is free.
 pub fn free_place(table: [Exchange; TABLE_SIZE]) -> usize
-    ensures { λ r. ⌜ r ≡ freePlace table ⌝ }
+    ensures place { λ r. ⌜ r ≡ freePlace table ⌝ }
+    ensures size { λ r. ⌜ length table ≡ tableSize ⌝ }
 {
     let mut at = 0;
     while at < TABLE_SIZE {
@@ -26,7 +29,8 @@ pub fn free_place(table: [Exchange; TABLE_SIZE]) -> usize
 
 // The place of the pending exchange with a ticket; the table's size where none has it.
 pub fn find(table: [Exchange; TABLE_SIZE], ticket: Ticket) -> usize
-    ensures { λ r. ⌜ r ≡ firstPlace (hasTicket (ticket .0)) table ⌝ }
+    ensures place { λ r. ⌜ r ≡ firstPlace (hasTicket (ticket .0)) table ⌝ }
+    ensures size { λ r. ⌜ length table ≡ tableSize ⌝ }
 {
     if ticket.0 == 0 {
         return TABLE_SIZE;
@@ -48,12 +52,18 @@ pub fn count_pending(table: [Exchange; TABLE_SIZE]) -> usize
     let mut count = 0;
     let mut at = 0;
     while at < TABLE_SIZE {
-        if table[at].ticket.0 != 0 {
-            count += 1;
-        }
+        count += number(table[at]);
         at += 1;
     }
     count
+}
+
+// 1 for a pending exchange, 0 for a free place.
+fn number(exchange: Exchange) -> usize
+    ensures { λ r. ⌜ r ≡ length (pendingIn (exchange ∷ [])) ⌝ }
+    ensures one { λ r. ⌜ r ≤ 1 ⌝ }
+{
+    if exchange.is_free() { 0 } else { 1 }
 }
 
 // The exchange at a place; a free one where there is no such place.

@@ -1,1 +1,6 @@
 -- Laws that belong to no one function; other crates cite them.
+pub mod Arrays
+pub mod Stored
+pub mod Parsed
+pub mod Reading
+pub mod Views

@@ -163,6 +163,18 @@ impl Keys {
         at
     }
 
+    // The number of keys.
+    pub fn number(self) -> usize
+        ensures { λ r. ⌜ r ≡ length (keysOf self) ⌝ }
+    {
+        let count = self.count as usize;
+        if count < MOST_CONFIGURATIONS {
+            count
+        } else {
+            MOST_CONFIGURATIONS
+        }
+    }
+
     // There is a key at the place.
     fn has(self, place: usize) -> bool
         ensures { λ r. ⌜ r ≡ ltb place (length (keysOf self)) ⌝ }
@@ -249,9 +261,10 @@ impl Keys {
         let mut reports = [blank; MOST_CONFIGURATIONS];
         let mut at = 0;
         while at < MOST_CONFIGURATIONS {
-            if at < count {
-                reports[at] = list[at].report();
+            if count <= at {
+                return reports;
             }
+            reports[at] = list[at].report();
             at += 1;
         }
         reports

@@ -1,0 +1,112 @@
+-- A call on the book by its refusal number: what it gives where it is accepted, and that the book stays where it is not.
+-- Assumes nothing.
+use Prim.Native.Nat.{ℕ, zero, suc, _+_}
+use mathlib.Core.Path.{_≡_, refl, sym}
+use mathlib.Core.Bool.{Bool, true, false}
+use mathlib.Core.List.{List, []}
+use borrow.Author.Tests.{eqb-false}
+use lib.Dec.{eqb}
+use lib.ListN.{length}
+use Rattle.wire.specs.Tests.{_and_}
+use Rattle.wire.specs.Refusals.{unlessRefused, written}
+use Rattle.wire.proofs.Booleans.{and-false}
+use Rattle.wire.proofs.Numbers.{unless-refused}
+use Rattle.exchange.specs.declared.Exchange.{Exchange}
+use Rattle.exchange.specs.Request.{infoOf}
+use Rattle.exchange.specs.Exchange.{exchangeOf}
+use Rattle.exchange.specs.Steps.{Step, openResult, respond, abandon, refusal, answer, buffer, openAnswer, respondAnswer, abandonAnswer, toOpen, toRespond, toAbandon}
+use Rattle.gateway.specs.Head.{admitAnswer, retireAnswer, report}
+use Rattle.gateway.specs.Calls.{Call, admit, retire, onTicket, reporting, toAdmit, toRetire, toStep, toReport, Done, number}
+use Rattle.book.specs.Book.{Book, admitted, keyRetired, moved, admitNumber, retireNumber, ticketNumber, bookDoes}
+use Rattle.book.specs.History.{event, isAccepted}
+use Rattle.book.specs.Demand3.{isKept}
+
+-- the refusal number of a call; a report, which is struck out as refused calls are, has one too
+abbrev pub numberOf : Book → Call → ℕ
+numberOf b (admit request info) = admitNumber request info b
+numberOf b (retire id) = retireNumber id b
+numberOf b (onTicket ticket step) = ticketNumber ticket step b
+numberOf b reporting = 1
+
+-- what an accepted call gives
+abbrev pub given : Book → Call → Done Book
+given b (admit request info) =
+    record {
+      answer = toAdmit (admitAnswer 0 (b .head .lastTicket + 1) request);
+      buffer = written 0 (infoOf request) info;
+      state = admitted request b;
+    }
+given b (retire id) = record { answer = toRetire (retireAnswer 0); buffer = []; state = keyRetired id b }
+given b (onTicket ticket step) =
+    record {
+      answer = toStep (answer step (exchangeOf ticket (b .pending)));
+      buffer = buffer step (exchangeOf ticket (b .pending));
+      state = moved ticket step b;
+    }
+given b reporting = record { answer = toReport (report (b .head) (length (b .pending))); buffer = []; state = b }
+
+-- and gives it, where its number is 0
+pub does-given : (b : Book) (call : Call) → numberOf b call ≡ 0 → bookDoes b call ≡ given b call
+unfolding bookDoes
+does-given b (admit request info) e = rw e
+does-given b (retire id) e = rw e
+does-given b (onTicket ticket step) e = rw e
+does-given b reporting e = refl
+
+-- the number of an answer is the number that made it
+admit-number : (n ticket : ℕ) (request : List ℕ) → number (toAdmit (admitAnswer n ticket request)) ≡ n
+unfolding number
+admit-number zero ticket request = refl
+admit-number (suc n) ticket request = refl
+
+retire-number : (n : ℕ) → number (toRetire (retireAnswer n)) ≡ n
+unfolding number
+retire-number zero = refl
+retire-number (suc n) = refl
+
+open-number : (n : ℕ) (success : Bool) → number (toStep (toOpen (openAnswer n success))) ≡ n
+unfolding number
+open-number zero true = refl
+open-number zero false = refl
+open-number (suc n) success = refl
+
+respond-number : (n nonce plain : ℕ) → number (toStep (toRespond (respondAnswer n nonce plain))) ≡ n
+unfolding number
+respond-number zero nonce plain = refl
+respond-number (suc n) nonce plain = refl
+
+abandon-number : (n : ℕ) → number (toStep (toAbandon (abandonAnswer n))) ≡ n
+unfolding number
+abandon-number zero = refl
+abandon-number (suc n) = refl
+
+step-number : (step : Step) (e : Exchange) → number (toStep (answer step e)) ≡ refusal step e
+unfolding answer
+step-number (openResult success n) e = open-number (refusal (openResult success n) e) success
+step-number (respond enc nonce plain salt) e = respond-number (refusal (respond enc nonce plain salt) e) (length nonce) plain
+step-number abandon e = abandon-number (refusal abandon e)
+
+-- a test and one that holds
+and-true : (a : Bool) → (a and true) ≡ a
+and-true true = refl
+and-true false = refl
+
+-- a call is kept where its number is 0
+pub kept-number : (b : Book) (call : Call) → isKept (event call (bookDoes b call)) ≡ eqb (numberOf b call) 0
+unfolding bookDoes
+kept-number b (admit request info) = rw admit-number (and-true (eqb (admitNumber request info b) 0))
+kept-number b (retire id) = rw retire-number (and-true (eqb (retireNumber id b) 0))
+kept-number b (onTicket ticket step) = rw step-number (and-true (eqb (ticketNumber ticket step b) 0))
+kept-number b reporting = and-false (isAccepted (event reporting (bookDoes b reporting))) false refl
+
+-- what stays by a number other than 0
+stays : (n : ℕ) (after before : Book) → eqb n 0 ≡ false → unlessRefused n after before ≡ before
+stays n after before e = sym (unless-refused n after before (eqb-false n 0 e))
+
+-- and where its number is another, the book stays
+pub refused-stays : (b : Book) (call : Call) → eqb (numberOf b call) 0 ≡ false → bookDoes b call .state ≡ b
+unfolding bookDoes
+refused-stays b (admit request info) e = stays (admitNumber request info b) (admitted request b) b e
+refused-stays b (retire id) e = stays (retireNumber id b) (keyRetired id b) b e
+refused-stays b (onTicket ticket step) e = stays (ticketNumber ticket step b) (moved ticket step b) b e
+refused-stays b reporting e = refl

@@ -1,0 +1,19 @@
+-- Demand 3 from its two halves: the gateway does as the book does (`Refinement`), and on the book the kept calls can be moved.
+-- Assumes nothing.
+use Prim.Native.Nat.{ℕ}
+use mathlib.Core.List.{List}
+use Rattle.gateway.specs.Calls.{Call}
+use Rattle.book.specs.Demand3.{Refinement, RefinementHolds, Demand3, Demand3Holds}
+use Rattle.book.proofs.Moving.{Moved, book-moved}
+
+of-halves : (list : List ℕ) (cap : ℕ) (made : List Call) → Refinement list cap made → Moved list cap made → Demand3 list cap made
+of-halves list cap made same moved =
+    record {
+      rearranged = rw (same .sameAnswers) (moved .rearranged);
+      sameAnswers = rw (same .sameAnswers) (moved .sameAnswers);
+      sameHead = rw (same .sameAnswers, moved .sameBook) (same .sameHead);
+      samePending = rw (same .sameAnswers, moved .sameBook) (same .samePending);
+    }
+
+pub demand3-of-refinement : RefinementHolds → Demand3Holds
+demand3-of-refinement same list cap made = of-halves list cap made (same list cap made) (book-moved list cap made)

@@ -1,0 +1,72 @@
+use mathlib.Core.Path.{_≡_, refl, sym, ap, _∙_}
+use Prim.Native.Nat.{ℕ, suc, _+_, _*_, _-_, _≤_, _<_}
+use native.Mathlib.Omega.{arith}
+use borrow.Author.Tests.{eq-eqb, ne-eqb, lt-ltb, le-ltb, le-leb, lt-leb}
+use mathlib.Core.Logic.{⊎-elim}
+use lib.ListN.{length, getD, take, drop, set}
+use borrow.Author.Needs.{needs}
+use Rattle.exchange.specs.declared.Exchange.{Exchange}
+use Rattle.exchange.specs.declared.RespondAnswer.{RespondAnswer}
+use Rattle.exchange.specs.Exchange.{exchangeOf}
+use Rattle.exchange.specs.Steps.{respond, refusal, respondAnswer, toRespond, answer, buffer}
+use Rattle.gateway.specs.Calls.{toStep, gatewayDoes}
+use Rattle.gateway.proofs.Places.{stepped-by}
+use Rattle.gateway.proofs.Gateway.respond.Statement.{statement}
+use Rattle.gateway.proofs.Gateway.respond.Tie as tie
+use Rattle.gateway.proofs.Gateway.respond.Reads as reads
+use Rattle.gateway.proofs.Gateway.respond.Lts as lts
+use Rattle.exchange.proofs.Exchange.respond.Reads as respond-reads
+use Rattle.gateway.proofs.table.at.Reads as at-reads
+use Rattle.gateway.proofs.table.find.Reads as find-reads
+use Rattle.gateway.proofs.with_exchange.Reads as with-exchange-reads
+
+-- src/lib.rt:140:13
+find-requires : tie.Need-find-requires
+find-requires c κs = search needs
+
+-- src/lib.rt:141:13
+at-requires : tie.Need-at-requires
+at-requires c κs = search needs
+
+-- src/lib.rt:142:13
+respond-requires : tie.Need-respond-requires
+respond-requires c κs = search needs
+
+-- src/lib.rt:146:22
+with-exchange-requires : tie.Need-with-exchange-requires
+with-exchange-requires c κs = search needs
+
+-- src/lib.rt:124:5
+same-length : tie.Need-same-length
+same-length c = search needs
+
+-- src/lib.rt:124:5
+returns : tie.Need-returns
+unfolding gatewayDoes answer
+returns c =
+    let a = c .before .before .before .before .before .before .before .before .before .before .before .before .args in
+    let call = respond (a .enc .now) (a .nonce .now) (a .plain) (a .salt .now) in
+    let find = c .before .before .before .before .before .before .before in
+    let at = c .before .before .before .before .before .before in
+    let found = find .find .ensures .0 in
+    let here = at .at .ensures in
+    let moved = c .before .before .before .before .respond .ensures in
+    let was : at .at .result ≡ exchangeOf (a .ticket .0) (a .self .table) = rw found at here in (
+      c .with-exchange .ensures ∙ stepped-by (a .self) (a .ticket .0) call _ _ _ found here (moved .1 .0),
+      (
+        ap (λ (e : RespondAnswer). toStep (toRespond e))
+            (moved .0 ∙ ap (λ (e : Exchange). respondAnswer (refusal call e) (length (a .nonce .now)) (a .plain)) was),
+        moved .1 .1 ∙ ap (λ (e : Exchange). buffer call e) was,
+      ),
+    )
+
+pub respond-spec : {M : Type 1} → statement M
+respond-spec =
+    tie.close
+    (tie.spec
+    find-requires
+    at-requires
+    respond-requires
+    with-exchange-requires
+    same-length
+    returns)

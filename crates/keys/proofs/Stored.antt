@@ -1,0 +1,120 @@
+-- What the stored keys stand for: how many there are, and the key at a place.
+-- Assumes nothing.
+use mathlib.Core.Path.{_≡_, sym, ap, _∙_}
+use mathlib.Core.Bool.{not}
+use mathlib.Core.List.{List, [], _∷_, _++_, map}
+use Prim.Native.Nat.{ℕ, suc, _+_, _≤_, _<_, min}
+use native.Mathlib.Omega.{arith}
+use borrow.Author.Tests.{ltb-true, ltb-false, lt-ltb, le-ltb, le-leb, lt-leb}
+use lib.Dec.{eqb, leb, ltb}
+use mir.Val.{Val}
+use denote.Laws.{Is}
+use lib.ListN.{length, getD, take, set, length-map}
+use lib.Seq.{set-out, take-suc}
+use Rattle.wire.specs.Refusals.{_when_otherwise_}
+use Rattle.wire.proofs.Booleans.{either}
+use Rattle.exchange.specs.declared.request.Request.{Request}
+use Rattle.keys.specs.declared.KeyState.{KeyState}
+use Rattle.keys.specs.declared.Keys.{Keys}
+use Rattle.keys.specs.declared.KeyReport.{KeyReport}
+use Rattle.keylist.specs.Layout.{mostConfigurations}
+use Rattle.keys.specs.Keys.{Key, keyAt, noKey, offers, keyRefusal, reportOf}
+use Rattle.keys.specs.Stored.{padded, keyOf, keysOf, blankKey, changedState, blankReport, storedReports}
+use Rattle.keylist.proofs.Pair
+use Rattle.keys.proofs.KeyState
+use Rattle.keys.proofs.Keys
+use Rattle.keys.proofs.Arrays.{getD-any, set-padded, map-append, length-stored, stored-at, take-min}
+
+-- what the code reads out of range
+abbrev pub unread : KeyState
+unread = record { count = 0; kem = 0; id = record { 0 = 0 }; retired = 0; «pair_count» = 0; pairs = [] }
+
+-- an array that code holds has its length
+pub full : (keys : Keys) (values : List Val) → Is Keys.the-row keys values → length (keys .list) ≡ 16
+full keys values is = sym (length-map (keys .list) (KeyState.the-type .to)) ∙ is .1 .1 .0 .1 .0 .1
+
+pub full-pairs : (key : KeyState) (values : List Val) → Is KeyState.the-row key values → length (key .pairs) ≡ 16
+full-pairs key values is = sym (length-map (key .pairs) (Pair.the-type .to)) ∙ is .1 .1 .1 .1 .1 .1 .1 .0 .1 .0 .1
+
+-- the refusals that a key decides
+abbrev pub keyTests : ℕ → Key → Request → ℕ
+keyTests cap key request =
+    5 when not (eqb (key .kem) (request .kem)) otherwise
+    6 when not (offers (request .kdf) (request .aead) key) otherwise
+    7 when key .retired otherwise
+    8 when leb cap (key .count) otherwise
+    0
+
+-- the reports of the first keys of an array
+abbrev pub reportsOf : ℕ → List KeyState → List KeyReport
+reportsOf count list = storedReports (map keyOf (take count list))
+
+abbrev stored : List KeyState → ℕ → Keys
+stored list count = record { list = list; count = count }
+
+module _ (keys : Keys) (whole : length (keys .list) ≡ 16) where
+  pub length-keys : length (keysOf keys) ≡ min (keys .count) 16
+  unfolding keysOf
+  length-keys = length-stored keyOf (keys .count) (keys .list) ∙ ap (min (keys .count)) whole
+
+  -- below the 16 places the count alone decides
+  pub below-most : (place : ℕ) → place < 16 → ltb place (keys .count) ≡ ltb place (length (keysOf keys))
+  below-most place h =
+      either (ltb place (keys .count))
+      (λ e. let l : place < keys .count = ltb-true place (keys .count) e in
+      e ∙ sym (lt-ltb place (length (keysOf keys)) (omega (arith, length-keys))))
+      (λ e. let l : keys .count ≤ place = ltb-false place (keys .count) e in
+      e ∙ sym (le-ltb place (length (keysOf keys)) (omega (arith, length-keys))))
+
+  -- the key at a place
+  pub key-at : (place : ℕ) → place < length (keysOf keys) → keyAt (keysOf keys) place ≡ keyOf (getD (keys .list) place unread)
+  unfolding keysOf
+  key-at place h =
+      stored-at keyOf (keys .count) (keys .list) place unread noKey (omega (arith, length-keys)) (omega (arith, length-keys))
+
+  -- there is no key at the place
+  pub refusal-out : (cap place : ℕ) (request : Request) → length (keysOf keys) ≤ place → keyRefusal cap (keysOf keys) place request ≡ 4
+  unfolding keyRefusal
+  refusal-out cap place request h = rw (le-leb (length (keysOf keys)) place h)
+
+  -- there is one, and it decides
+  pub refusal-there : (cap place : ℕ) (request : Request) → place < length (keysOf keys)
+      → keyRefusal cap (keysOf keys) place request ≡ keyTests cap (keyOf (getD (keys .list) place unread)) request
+  unfolding keyRefusal
+  refusal-there cap place request h = rw (lt-leb (length (keysOf keys)) place h, key-at place h)
+
+  module _ (change : KeyState → KeyState) (place : ℕ) where
+    -- the keys with one changed, as the code makes them
+    pub changed-in : place < 16
+        → stored (set (keys .list) place (change (getD (keys .list) place unread))) (keys .count) ≡ changedState change place keys
+    changed-in h =
+        ap (λ (k : KeyState). stored (set (keys .list) place (change k)) (keys .count))
+        (getD-any (keys .list) place unread blankKey (omega (arith, whole)))
+
+    -- where there is no such place nothing changes
+    pub changed-out : 16 ≤ place → keys ≡ changedState change place keys
+    changed-out h =
+        sym (ap (λ (l : List KeyState). stored l (keys .count))
+        (set-out (keys .list) place (change (getD (keys .list) place blankKey)) (omega (arith, whole))))
+
+  -- one report more
+  pub reports-more : (at : ℕ) → at < 16
+      → set (reportsOf at (keys .list)) at (reportOf (keyOf (getD (keys .list) at unread))) ≡ reportsOf (at + 1) (keys .list)
+  reports-more at h =
+      let one : at + 1 ≡ suc at = omega arith in
+      let here = getD (keys .list) at unread in
+      let seen = map reportOf (map keyOf (take at (keys .list))) in
+      let next : take at (keys .list) ++ here ∷ [] ≡ take (at + 1) (keys .list) =
+      rw one (sym (take-suc (keys .list) at unread (omega (arith, whole)))) in
+      let long : length seen ≡ at =
+      length-map (map keyOf (take at (keys .list))) reportOf ∙ length-stored keyOf at (keys .list) ∙ omega (arith, whole) in
+      set-padded mostConfigurations blankReport seen at (reportOf (keyOf here)) long h
+      ∙ ap (padded mostConfigurations blankReport)
+      (sym (map-append reportOf (map keyOf (take at (keys .list))) (keyOf here ∷ []))
+      ∙ ap (map reportOf) (sym (map-append keyOf (take at (keys .list)) (here ∷ []))
+      ∙ ap (map keyOf) next))
+
+  -- the reports of all keys
+  pub reports-all : (at : ℕ) → at ≡ min (keys .count) 16 → reportsOf at (keys .list) ≡ storedReports (keysOf keys)
+  unfolding keysOf
+  reports-all at e = ap (λ (l : List KeyState). storedReports (map keyOf l)) (take-min (keys .list) at (keys .count) (rw whole e))
