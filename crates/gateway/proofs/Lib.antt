@@ -1,3 +1,5 @@
 -- Laws that belong to no one function; other crates cite them.
 pub mod Places
 pub mod Deciding
+pub mod Results
+pub mod Fresh

@@ -1,11 +1,10 @@
 -- The gateway's state after each call. What it answers is in `Head` and in exchange's `Steps`.
 use Prim.Native.Nat.{ℕ}
-use mathlib.Core.Bool.{Bool}
+use mathlib.Core.Bool.{Bool, not}
 use mathlib.Core.List.{List, [], _∷_}
-use lib.Dec.{leb}
-use lib.ListN.{length, set, replicate}
+use lib.ListN.{set, replicate}
 use Rattle.wire.specs.Tests.{pick}
-use Rattle.wire.specs.Search.{firstPlace}
+use Rattle.wire.specs.Search.{firstPlace, anyPasses}
 use Rattle.keylist.specs.Layout.{Configuration, Outcome, good, bad}
 use Rattle.exchange.specs.declared.Exchange.{Exchange}
 use Rattle.exchange.specs.Request.{keyIdOf, fieldsOf}
@@ -39,13 +38,13 @@ unfoldable pub pendingIn : List Exchange → List Exchange
 pendingIn [] = []
 pendingIn (e ∷ es) = pick (isFree e) (pendingIn es) (e ∷ pendingIn es)
 
--- 01's open point, the place of a new exchange in the table; nothing but `PlaceIsFree` is used of it
-unfoldable pub freePlace : List Exchange → ℕ
-freePlace table = firstPlace isFree table
-
 -- no place is free
 abbrev pub isFull : List Exchange → Bool
-isFull table = leb (length table) (freePlace table)
+isFull table = not (anyPasses isFree table)
+
+-- 01's open point, the place of a new exchange in a table that is not full; nothing but `PlaceIsFree` (book) is used of it
+unfoldable pub freePlace : List Exchange → ℕ
+freePlace table = firstPlace isFree table
 
 -- the next ticket
 abbrev pub nextTicket : Gateway → ℕ

@@ -94,6 +94,7 @@ module _ (bytes : List ℕ) where
           within = n .holding .whole;
         }
 
+    -- no more keys were read than there is room for
     pub read-few : count ≤ 16
     read-few =
         let all = parsed bytes (r .done ++ r .walk .rest) (r .whole) .few in

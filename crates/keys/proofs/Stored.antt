@@ -1,4 +1,4 @@
--- What the stored keys stand for: how many there are, and the key at a place.
+-- What the stored keys stand for: how many there are, the key at a place and what it decides, one key changed, and the reports.
 -- Assumes nothing.
 use mathlib.Core.Path.{_≡_, sym, ap, _∙_}
 use mathlib.Core.Bool.{not}
@@ -29,7 +29,7 @@ use Rattle.keys.proofs.Arrays.{getD-any, set-padded, map-append, length
 abbrev pub unread : KeyState
 unread = record { count = 0; kem = 0; id = record { 0 = 0 }; retired = 0; «pair_count» = 0; pairs = [] }
 
--- an array that code holds has its length
+-- the arrays of a struct that code holds have their length: owning the struct says so (`.good` of a parameter)
 pub full : (keys : Keys) (values : List Val) → Is Keys.the-row keys values → length (keys .list) ≡ 16
 full keys values is = sym (length-map (keys .list) (KeyState.the-type .to)) ∙ is .1 .1 .0 .1 .0 .1
 

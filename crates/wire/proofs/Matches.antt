@@ -1,13 +1,13 @@
 -- Laws of the first match: what a loop that passed over the elements before it has shown.
 -- Assumes nothing.
 use mathlib.Core.Path.{_≡_, refl, ap}
-use mathlib.Core.Bool.{Bool, true, false}
+use mathlib.Core.Bool.{Bool, true, false, not}
 use mathlib.Core.List.{List, [], _∷_}
 use Prim.Native.Nat.{ℕ, zero, suc, _≤_, _<_, suc-le-suc}
 use native.Mathlib.Nat.{not-suc-le-zero, le-of-suc-le-suc}
 use native.Mathlib.Omega.{arith}
-use borrow.Author.Tests.{eq-eqb, ne-eqb}
-use lib.Dec.{eqb}
+use borrow.Author.Tests.{eq-eqb, ne-eqb, le-leb, lt-leb, ltb-true, ltb-false}
+use lib.Dec.{eqb, leb, ltb}
 use lib.ListN.{length, getD}
 use Rattle.wire.specs.Tests.{pick}
 use Rattle.wire.proofs.Booleans.{either, true-or-false}
@@ -72,6 +72,19 @@ module _ {A : Type 0} (default : A) (test : A → Bool) where
   unfolding anyPasses
   any-none [] none = refl
   any-none (x ∷ xs) none = rw (none 0 (omega arith)) (any-none xs (λ j l. none (suc j) (suc-le-suc l)))
+
+  -- whether some element passes is whether the first match is inside
+  pub any-by-place : (xs : List A) → not (anyPasses test xs) ≡ leb (length xs) (firstPlace test xs)
+  any-by-place xs =
+      either (anyPasses test xs)
+      (λ e. rw (e, lt-leb (length xs) (firstPlace test xs) (any-inside xs e)))
+      (λ e. rw (e, le-leb (length xs) (firstPlace test xs) (outside xs e)))
+    where
+      outside : (xs : List A) → anyPasses test xs ≡ false → length xs ≤ firstPlace test xs
+      outside xs e =
+          either (ltb (firstPlace test xs) (length xs))
+          (λ l. absurd (true-or-false (any-at xs (firstPlace test xs) (ltb-true _ _ l) (first-passes xs (ltb-true _ _ l))) e))
+          (λ l. ltb-false _ _ l)
 
 -- a number in a list of numbers
 pub among-at : (xs : List ℕ) (x k : ℕ) → k < length xs → getD xs k 0 ≡ x → among xs x ≡ true

@@ -1,0 +1,32 @@
+-- What setup gives, by what the list's check says and by the cap.
+-- Assumes nothing.
+use mathlib.Core.Path.{_≡_, refl}
+use mathlib.Core.Bool.{true, false}
+use mathlib.Core.List.{List, []}
+use Prim.Native.Nat.{ℕ}
+use native.Mathlib.Omega.{arith}
+use Rattle.wire.specs.Refusals.{refused}
+use Rattle.wire.specs.declared.refusal.Refusal.{Refusal}
+use Rattle.keylist.specs.Layout.{Configuration, Outcome, good, bad}
+use Rattle.keylist.specs.Answers.{checked}
+use Rattle.keylist.specs.declared.Checked.{Checked}
+use Rattle.keys.specs.Stored.{storedKeys, keysFrom}
+use Rattle.gateway.specs.declared.SetupAnswer.{SetupAnswer}
+use Rattle.gateway.specs.Head.{capHolds, setupAnswer}
+use Rattle.gateway.specs.Gateway.{emptyGateway, freshGateway}
+
+pub cap-refused : (o : Outcome (List Configuration)) (cap n : ℕ) → checked o ≡ Checked.Good n → capHolds cap ≡ false
+    → (emptyGateway 1 (storedKeys []) ≡ freshGateway o cap) × (SetupAnswer.Refused (refused 17) ≡ setupAnswer o cap)
+cap-refused (good cs) cap n e h = rw h (refl, refl)
+cap-refused (bad r) cap n e h = absurd (let z : _≡_ {A = ℕ} 0 1 = cc in omega arith)
+
+pub ready : (o : Outcome (List Configuration)) (cap n : ℕ) → checked o ≡ Checked.Good n → capHolds cap ≡ true
+    → (emptyGateway cap (keysFrom o) ≡ freshGateway o cap) × (SetupAnswer.Ready n ≡ setupAnswer o cap)
+unfolding keysFrom
+ready (good cs) cap n e h = rw h (refl, cc)
+ready (bad r) cap n e h = absurd (let z : _≡_ {A = ℕ} 0 1 = cc in omega arith)
+
+pub list-refused : (o : Outcome (List Configuration)) (cap : ℕ) (r : Refusal) → checked o ≡ Checked.Refused r
+    → (emptyGateway 1 (storedKeys []) ≡ freshGateway o cap) × (SetupAnswer.Refused r ≡ setupAnswer o cap)
+list-refused (good cs) cap r e = absurd (let z : _≡_ {A = ℕ} 0 1 = cc in omega arith)
+list-refused (bad s) cap r e = (refl, cc)

@@ -1,0 +1,155 @@
+-- What admit and retire give, by the numbers and values that their code computes on the way.
+-- Assumes nothing.
+use mathlib.Core.Path.{_≡_, refl, sym, ap, _∙_}
+use mathlib.Core.Bool.{Bool}
+use mathlib.Core.List.{List}
+use Prim.Native.Nat.{ℕ, zero, suc, _≤_, _<_}
+use native.Mathlib.Omega.{arith}
+use lib.Dec.{leb, ltb}
+use lib.ListN.{length, set, take, replicate, length-append, length-take}
+use borrow.Author.Tests.{leb-false, ltb-false}
+use Rattle.wire.specs.Refusals.{_when_otherwise_, refused, unlessRefused}
+use Rattle.wire.specs.Bytes.{withFront, overwritten}
+use Rattle.wire.specs.Texts.{headLength, infoLength, infoBytes, requestLabel}
+use Rattle.wire.specs.declared.refusal.Refusal.{Refusal}
+use Rattle.wire.proofs.Matches.{any-by-place}
+use Rattle.wire.proofs.Writes.{front-first}
+use Rattle.wire.proofs.Numbers.{unless-refused, not-refused}
+use Rattle.exchange.specs.declared.Exchange.{Exchange}
+use Rattle.exchange.specs.declared.Ticket.{Ticket}
+use Rattle.exchange.specs.declared.request.Request.{Request}
+use Rattle.exchange.specs.declared.request.Parsed.{Parsed}
+use Rattle.exchange.specs.Request.{requestRefusal, fieldsOf, noFields, parsed, infoOf}
+use Rattle.exchange.specs.Exchange.{free, isFree, asked}
+use Rattle.exchange.proofs.Requests.{accepted-request, info-of}
+use Rattle.keys.specs.declared.Keys.{Keys}
+use Rattle.keys.specs.Keys.{Key, keyPlace, keyRefusal, retireRefusal}
+use Rattle.keys.specs.Stored.{keysOf, usedState, retiredState, changedState}
+use Rattle.gateway.specs.declared.Gateway.{Gateway}
+use Rattle.gateway.specs.declared.admission.Admission.{Admission}
+use Rattle.gateway.specs.declared.admission.Rejection.{Rejection}
+use Rattle.gateway.specs.declared.AdmitAnswer.{AdmitAnswer}
+use Rattle.gateway.specs.declared.RetireAnswer.{RetireAnswer}
+use Rattle.gateway.specs.Head.{_orElse_, admitRefusal, rejection, admission, admitAnswer, retireAnswer}
+use Rattle.gateway.specs.Gateway.{tableSize, headOf, isFull, freePlace, nextTicket, admitted, retiredGateway}
+use Rattle.gateway.specs.Calls.{admit, retire, toAdmit, toRetire, gatewayDoes, admitNumber, retireNumber}
+
+retire-refused : (n : ℕ) → (n ≡ 0 → ⊥) → RetireAnswer.Refused (refused n) ≡ retireAnswer n
+retire-refused zero h = absurd (h refl)
+retire-refused (suc n) h = refl
+
+admit-refused : (n ticket : ℕ) (request : List ℕ) → (n ≡ 0 → ⊥) → AdmitAnswer.Refused (rejection n) ≡ admitAnswer n ticket request
+admit-refused zero ticket request h = absurd (h refl)
+admit-refused (suc n) ticket request h = refl
+
+-- retire, by the place and the number that it finds
+module _ (g : Gateway) (id place number : ℕ) (p : place ≡ keyPlace id (keysOf (g .keys)))
+    (n : number ≡ retireRefusal (keysOf (g .keys)) place) where
+  is-number : number ≡ retireNumber id g
+  is-number = n ∙ ap (retireRefusal (keysOf (g .keys))) p
+
+  pub not-retired : (r : Refusal) → r ≡ refused number → (number ≡ 0 → ⊥)
+      → (g ≡ gatewayDoes g (retire id) .state) × (toRetire (RetireAnswer.Refused r) ≡ gatewayDoes g (retire id) .answer)
+  unfolding gatewayDoes
+  not-retired r e h = rw (← is-number, e) (unless-refused number (retiredGateway id g) g h, ap toRetire (retire-refused number h))
+
+  pub is-retired : (keys : Keys) → keys ≡ changedState retiredState place (g .keys) → number ≡ 0
+      → (record { «last_ticket» = g .«last_ticket»; cap = g .cap; keys = keys; table = g .table } ≡ gatewayDoes g (retire id) .state)
+      × (toRetire RetireAnswer.Retired ≡ gatewayDoes g (retire id) .answer)
+  unfolding gatewayDoes
+  is-retired keys k z = rw (← is-number, z, k, p) (refl, refl)
+
+-- the fields of a request that is refused do not matter
+fields-only-accepted : (q cap : ℕ) (keys : List Key) (f n : Request) (rest : ℕ)
+    → (q orElse keyRefusal cap keys (keyPlace (unlessRefused q f n .«key_id» .0) keys) (unlessRefused q f n) orElse rest)
+    ≡ (q orElse keyRefusal cap keys (keyPlace (f .«key_id» .0) keys) f orElse rest)
+fields-only-accepted zero cap keys f n rest = refl
+fields-only-accepted (suc q) cap keys f n rest = refl
+
+none-first : (a b : ℕ) → (a orElse b) ≡ 0 → (a ≡ 0) × (b ≡ 0)
+none-first zero b e = (refl, e)
+none-first (suc a) b e = absurd (omega (arith, e))
+
+-- the last two refusals
+abbrev lastNumber : ℕ → ℕ → ℕ
+lastNumber place room = 9 when leb tableSize place otherwise 14 when ltb room infoLength otherwise 0
+
+-- info at the front of its buffer
+pub info-written : (request info : List ℕ) → headLength ≤ length request → infoLength ≤ length info
+    → overwritten info 0 (infoBytes (overwritten (replicate headLength 0) 0 request)) ≡ withFront (infoOf request) info
+unfolding requestLabel
+info-written request info h l =
+    let size : length (infoOf request) ≡ infoLength = length-append requestLabel (take headLength request) ∙ rw (length-take headLength request) (omega arith) in
+    rw (info-of request h) (front-first (infoOf request) info (omega (arith, size)))
+
+-- what admit's code finds: the parsed request, the key's place and its refusal, the place in the table, and the number
+pub record Decided (g : Gateway) (request info : List ℕ) : Type 0 where
+  pub read : Parsed
+  pub key : ℕ
+  pub byKey : ℕ
+  pub place : ℕ
+  pub number : ℕ
+  pub isRead : read ≡ parsed request
+  pub isKey : key ≡ keyPlace (read .request .«key_id» .0) (keysOf (g .keys))
+  pub isByKey : byKey ≡ keyRefusal (g .cap) (keysOf (g .keys)) key (read .request)
+  pub isPlace : place ≡ freePlace (g .table)
+  pub size : length (g .table) ≡ tableSize
+  pub isNumber : number ≡ (read .refusal orElse byKey orElse lastNumber place (length info))
+
+module _ (g : Gateway) (request info : List ℕ) (d : Decided g request info) where
+  full-by-place : isFull (g .table) ≡ leb tableSize (d .place)
+  unfolding freePlace
+  full-by-place = rw (d .isPlace, ← d .size) (any-by-place free isFree (g .table))
+
+  pub admit-number : d .number ≡ admitNumber request info g
+  unfolding admitRefusal
+  admit-number =
+      d .isNumber ∙ rw (d .isByKey, d .isKey, d .isRead, full-by-place)
+      (fields-only-accepted (requestRefusal request) (g .cap) (keysOf (g .keys)) (fieldsOf request) noFields _)
+
+  pub not-admitted : (r : Rejection) → r ≡ rejection (d .number) → (d .number ≡ 0 → ⊥)
+      → (g ≡ gatewayDoes g (admit request info) .state)
+      × ((toAdmit (AdmitAnswer.Refused r) ≡ gatewayDoes g (admit request info) .answer)
+      × (info ≡ gatewayDoes g (admit request info) .buffer))
+  unfolding gatewayDoes
+  not-admitted r e h =
+      rw (← admit-number, e) (
+        unless-refused (d .number) (admitted request g) g h,
+        (ap toAdmit (admit-refused (d .number) (nextTicket g) request h), unless-refused (d .number) _ info h),
+      )
+
+  module _ (none : d .number ≡ 0) where
+    parts : (d .read .refusal ≡ 0) × (lastNumber (d .place) (length info) ≡ 0)
+    parts =
+        let a = none-first (d .read .refusal) _ (sym (d .isNumber) ∙ none) in
+        let b = none-first (d .byKey) _ (a .1) in
+        (a .0, b .1)
+
+    pub place-below : d .place < tableSize
+    place-below =
+        leb-false tableSize (d .place)
+        (not-refused 8 (leb tableSize (d .place)) (14 when ltb (length info) infoLength otherwise 0) (parts .1) .0)
+
+    pub info-fits : infoLength ≤ length info
+    info-fits =
+        ltb-false (length info) infoLength
+        (not-refused 13 (ltb (length info) infoLength) 0 (not-refused 8 (leb tableSize (d .place)) (14 when ltb (length info) infoLength otherwise 0) (parts .1) .1) .0)
+
+    request-good : requestRefusal request ≡ 0
+    request-good = sym (ap (λ (p : Parsed). p .refusal) (d .isRead)) ∙ parts .0
+
+    pub head-there : headLength ≤ length request
+    head-there = omega (arith, accepted-request request request-good .1 .0)
+
+    fields-read : d .read .request ≡ fieldsOf request
+    fields-read = ap (λ (p : Parsed). p .request) (d .isRead) ∙ rw request-good
+
+    pub is-admitted : (ticket : Ticket) (keys : Keys) (e : Exchange) (m : Admission) (buffer : List ℕ)
+        → ticket ≡ record { 0 = nextTicket g } → keys ≡ changedState usedState (d .key) (g .keys) → e ≡ asked (ticket .0) (d .read .request)
+        → m ≡ admission (ticket .0) (d .read .request) (length request) → buffer ≡ withFront (infoOf request) info
+        → (record { «last_ticket» = ticket; cap = g .cap; keys = keys; table = set (g .table) (d .place) e } ≡ gatewayDoes g (admit request info) .state)
+        × ((toAdmit (AdmitAnswer.Admitted m) ≡ gatewayDoes g (admit request info) .answer)
+        × (buffer ≡ gatewayDoes g (admit request info) .buffer))
+    unfolding gatewayDoes
+    is-admitted ticket keys e m buffer t k x a b =
+        rw (← admit-number, none, k, x, a, b, t, d .isKey, d .isPlace, fields-read) (refl, (refl, refl))
