@@ -1,6 +1,6 @@
 -- A call on the book by its refusal number: what it gives where it is accepted, and that the book stays where it is not.
 -- Assumes nothing.
-use Prim.Native.Nat.{ℕ, zero, suc, _+_}
+use Prim.Native.Nat.{ℕ, _+_}
 use mathlib.Core.Path.{_≡_, refl, sym}
 use mathlib.Core.Bool.{Bool, true, false}
 use mathlib.Core.List.{List, []}
@@ -11,15 +11,15 @@ use Rattle.wire.specs.Tests.{_and_}
 use Rattle.wire.specs.Refusals.{unlessRefused, written}
 use Rattle.wire.proofs.Booleans.{and-false}
 use Rattle.wire.proofs.Numbers.{unless-refused}
-use Rattle.exchange.specs.declared.Exchange.{Exchange}
 use Rattle.exchange.specs.Request.{infoOf}
 use Rattle.exchange.specs.Exchange.{exchangeOf}
-use Rattle.exchange.specs.Steps.{Step, openResult, respond, abandon, refusal, answer, buffer, openAnswer, respondAnswer, abandonAnswer, toOpen, toRespond, toAbandon}
+use Rattle.exchange.specs.Steps.{answer, buffer}
 use Rattle.gateway.specs.Head.{admitAnswer, retireAnswer, report}
-use Rattle.gateway.specs.Calls.{Call, admit, retire, onTicket, reporting, toAdmit, toRetire, toStep, toReport, Done, number}
+use Rattle.gateway.specs.Calls.{Call, admit, retire, onTicket, reporting, toAdmit, toRetire, toStep, toReport, Done}
 use Rattle.book.specs.Book.{Book, admitted, keyRetired, moved, admitNumber, retireNumber, ticketNumber, bookDoes}
 use Rattle.book.specs.History.{event, isAccepted}
 use Rattle.book.specs.Demand3.{isKept}
+use Rattle.book.proofs.Numbers.{admit-number, retire-number, step-number}
 
 -- the refusal number of a call; a report, which is struck out as refused calls are, has one too
 abbrev pub numberOf : Book → Call → ℕ
@@ -52,39 +52,6 @@ does-given b (admit request info) e = rw e
 does-given b (retire id) e = rw e
 does-given b (onTicket ticket step) e = rw e
 does-given b reporting e = refl
-
--- the number of an answer is the number that made it
-admit-number : (n ticket : ℕ) (request : List ℕ) → number (toAdmit (admitAnswer n ticket request)) ≡ n
-unfolding number
-admit-number zero ticket request = refl
-admit-number (suc n) ticket request = refl
-
-retire-number : (n : ℕ) → number (toRetire (retireAnswer n)) ≡ n
-unfolding number
-retire-number zero = refl
-retire-number (suc n) = refl
-
-open-number : (n : ℕ) (success : Bool) → number (toStep (toOpen (openAnswer n success))) ≡ n
-unfolding number
-open-number zero true = refl
-open-number zero false = refl
-open-number (suc n) success = refl
-
-respond-number : (n nonce plain : ℕ) → number (toStep (toRespond (respondAnswer n nonce plain))) ≡ n
-unfolding number
-respond-number zero nonce plain = refl
-respond-number (suc n) nonce plain = refl
-
-abandon-number : (n : ℕ) → number (toStep (toAbandon (abandonAnswer n))) ≡ n
-unfolding number
-abandon-number zero = refl
-abandon-number (suc n) = refl
-
-step-number : (step : Step) (e : Exchange) → number (toStep (answer step e)) ≡ refusal step e
-unfolding answer
-step-number (openResult success n) e = open-number (refusal (openResult success n) e) success
-step-number (respond enc nonce plain salt) e = respond-number (refusal (respond enc nonce plain salt) e) (length nonce) plain
-step-number abandon e = abandon-number (refusal abandon e)
 
 -- a test and one that holds
 and-true : (a : Bool) → (a and true) ≡ a

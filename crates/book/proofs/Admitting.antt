@@ -14,7 +14,7 @@ use Rattle.wire.specs.Search.{firstPlace, anyPasses}
 use Rattle.wire.specs.Refusals.{_when_otherwise_}
 use Rattle.wire.specs.Texts.{infoLength}
 use Rattle.wire.proofs.Booleans.{and-left, and-right}
-use Rattle.wire.proofs.Matches.{any-at, any-first, any-inside, first-before, first-passes}
+use Rattle.wire.proofs.Matches.{any-at, any-first, any-inside, first-passes}
 use Rattle.wire.proofs.Numbers.{not-refused, passed-on}
 use Rattle.algorithms.specs.Sizes.{knownPair, knownKdf, knownAead}
 use Rattle.keylist.specs.declared.Pair.{Pair}
@@ -28,17 +28,9 @@ use Rattle.gateway.specs.declared.Gateway.{Gateway}
 use Rattle.gateway.specs.Head.{_orElse_, admitRefusal}
 use Rattle.gateway.specs.Gateway.{headOf, freePlace, isFull}
 use Rattle.gateway.specs.Calls.{admitNumber}
+use Rattle.gateway.proofs.Deciding.{none-of-both, both-none}
 use Rattle.book.specs.OneCall.{Holds, noPair, Admissible}
 use Rattle.book.proofs.Placing.{place-is-free}
-
--- no refusal of two is none of either
-pub none-of-both : (a b : ℕ) → (a orElse b) ≡ 0 → (a ≡ 0) × (b ≡ 0)
-none-of-both zero b e = (refl, e)
-none-of-both (suc a) b e = absurd (omega (arith, e))
-
-pub both-none : (a b : ℕ) → a ≡ 0 → b ≡ 0 → (a orElse b) ≡ 0
-both-none zero b p q = q
-both-none (suc a) b p q = absurd (omega (arith, p))
 
 -- a negated test that fails, and one that holds
 holds-not : (b : Bool) → b ≡ true → not b ≡ false
@@ -108,10 +100,7 @@ not-refused-by-key cap keys place request u =
 
 -- some place is free where the table is not full
 pub not-full : (table : List Exchange) (p : ℕ) → p < length table → isFree (getD table p free) ≡ true → isFull table ≡ false
-unfolding freePlace
-not-full table p h e =
-    let before = first-before free isFree table p h e in
-    lt-leb (length table) (firstPlace isFree table) (omega (arith, before))
+not-full table p h e = rw (any-at free isFree table p h e)
 
 -- nothing refuses: the conditions hold, of the key that is found
 pub admissible : (g : Gateway) (request info : List ℕ) → admitNumber request info g ≡ 0 → Admissible g request info

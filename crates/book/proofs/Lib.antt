@@ -1,10 +1,23 @@
--- The proofs of the theorems.
+-- The proofs of the theorems. One call:
 pub mod Edges
 pub mod Numbers
 pub mod Refusing
 pub mod Placing
 pub mod Protecting
 pub mod Admitting
+pub mod Accepting
+-- the gateway against the book:
+pub mod Passing
+pub mod Table
+pub mod KeyCounts
+pub mod Sound
+pub mod Refining
+pub mod Refinement
+pub mod Admission
+-- counts and tickets:
+pub mod Counting
+pub mod Counts
+-- moving calls on the book:
 pub mod Pending
 pub mod Accepted
 pub mod Swap
@@ -12,4 +25,4 @@ pub mod Runs
 pub mod Pulling
 pub mod Chosen
 pub mod Moving
-pub mod Combined
+pub mod Demand3

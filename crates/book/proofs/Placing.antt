@@ -4,26 +4,28 @@ use mathlib.Core.Path.{_≡_}
 use mathlib.Core.Bool.{true, false}
 use mathlib.Core.List.{List}
 use Prim.Native.Nat.{ℕ, _<_}
-use borrow.Author.Tests.{leb-false}
+use borrow.Author.Tests.{not-false}
 use lib.ListN.{length, getD, set}
 use lib.Seq.{getD-set-other}
-use Rattle.wire.proofs.Matches.{first-passes}
+use Rattle.wire.specs.Search.{anyPasses}
+use Rattle.wire.proofs.Matches.{any-inside, any-first}
 use Rattle.exchange.specs.declared.Exchange.{Exchange}
 use Rattle.exchange.specs.Exchange.{free, isFree}
 use Rattle.gateway.specs.Gateway.{freePlace, isFull}
 use Rattle.book.specs.OneCall.{PlaceIsFree}
 
-pub place-inside : (table : List Exchange) → isFull table ≡ false → freePlace table < length table
-place-inside table h = leb-false (length table) (freePlace table) h
+inside : (table : List Exchange) → isFull table ≡ false → freePlace table < length table
+unfolding freePlace
+inside table h = any-inside free isFree table (not-false (anyPasses isFree table) h)
 
 was-free : (table : List Exchange) → isFull table ≡ false → isFree (getD table (freePlace table) free) ≡ true
 unfolding freePlace
-was-free table h = first-passes free isFree table (leb-false _ _ h)
+was-free table h = any-first free isFree table (not-false (anyPasses isFree table) h)
 
 pub place-is-free : PlaceIsFree
 place-is-free =
     record {
-      inside = place-inside;
+      inside = inside;
       wasFree = was-free;
       others = λ table e place h. getD-set-other table (freePlace table) place e free h;
     }

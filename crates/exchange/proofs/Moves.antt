@@ -2,33 +2,28 @@
 -- with it or its place is free.
 -- Assumes nothing.
 use mathlib.Core.Path.{_≡_, refl, sym}
-use mathlib.Core.Bool.{Bool, true, false}
-use mathlib.Core.Logic.{_⊎_, inl, inr}
-use Prim.Native.Nat.{ℕ}
-use native.Mathlib.Omega.{arith}
-use Rattle.wire.specs.Refusals.{_when_otherwise_}
-use Rattle.wire.proofs.Numbers.{unless-refused}
+use mathlib.Core.Bool.{true, false}
+use Rattle.wire.proofs.Numbers.{unless-refused, not-refused}
+use Rattle.wire.proofs.Booleans.{true-or-false}
 use Rattle.exchange.specs.declared.Exchange.{Exchange}
 use Rattle.exchange.specs.Exchange.{isFree}
 use Rattle.exchange.specs.Steps.{Step, openResult, respond, abandon, refusal, respondRefusal, next, after}
 
+-- a refused call leaves the exchange
 pub refused-stays : (step : Step) (e : Exchange) → (refusal step e ≡ 0 → ⊥) → after step e ≡ e
 refused-stays step e h = sym (unless-refused (refusal step e) (next step e) e h)
 
 -- 11 is tested first
-pending : (free : Bool) (later : ℕ) → (11 when free otherwise later) ≡ 0 → free ≡ false
-pending true later h = absurd (omega arith)
-pending false later h = refl
-
 pub accepted-pending : (step : Step) (e : Exchange) → refusal step e ≡ 0 → isFree e ≡ false
 unfolding refusal respondRefusal
-accepted-pending (openResult success n) e h = pending (isFree e) _ h
-accepted-pending (respond enc nonce plain salt) e h = pending (isFree e) _ h
-accepted-pending abandon e h = pending (isFree e) _ h
+accepted-pending (openResult success n) e h = not-refused 10 (isFree e) _ h .0
+accepted-pending (respond enc nonce plain salt) e h = not-refused 10 (isFree e) _ h .0
+accepted-pending abandon e h = not-refused 10 (isFree e) _ h .0
 
-pub next-ticket : (step : Step) (e : Exchange) → (isFree (next step e) ≡ true) ⊎ (next step e .ticket ≡ e .ticket)
+-- what is left of the exchange has its ticket
+pub next-ticket : (step : Step) (e : Exchange) → isFree (next step e) ≡ false → next step e .ticket .0 ≡ e .ticket .0
 unfolding next
-next-ticket (openResult true n) e = inr refl
-next-ticket (openResult false n) e = inl refl
-next-ticket (respond enc nonce plain salt) e = inl refl
-next-ticket abandon e = inl refl
+next-ticket (openResult true n) e h = refl
+next-ticket (openResult false n) e h = absurd (true-or-false refl h)
+next-ticket (respond enc nonce plain salt) e h = absurd (true-or-false refl h)
+next-ticket abandon e h = absurd (true-or-false refl h)

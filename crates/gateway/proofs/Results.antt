@@ -32,6 +32,7 @@ use Rattle.gateway.specs.declared.AdmitAnswer.{AdmitAnswer}
 use Rattle.gateway.specs.declared.RetireAnswer.{RetireAnswer}
 use Rattle.gateway.specs.Head.{_orElse_, admitRefusal, rejection, admission, admitAnswer, retireAnswer}
 use Rattle.gateway.specs.Gateway.{tableSize, headOf, isFull, freePlace, nextTicket, admitted, retiredGateway}
+use Rattle.gateway.proofs.Deciding.{none-of-both}
 use Rattle.gateway.specs.Calls.{admit, retire, toAdmit, toRetire, gatewayDoes, admitNumber, retireNumber}
 
 retire-refused : (n : ℕ) → (n ≡ 0 → ⊥) → RetireAnswer.Refused (refused n) ≡ retireAnswer n
@@ -65,10 +66,6 @@ fields-only-accepted : (q cap : ℕ) (keys : List Key) (f n : Request) (rest : �
     ≡ (q orElse keyRefusal cap keys (keyPlace (f .«key_id» .0) keys) f orElse rest)
 fields-only-accepted zero cap keys f n rest = refl
 fields-only-accepted (suc q) cap keys f n rest = refl
-
-none-first : (a b : ℕ) → (a orElse b) ≡ 0 → (a ≡ 0) × (b ≡ 0)
-none-first zero b e = (refl, e)
-none-first (suc a) b e = absurd (omega (arith, e))
 
 -- the last two refusals
 abbrev lastNumber : ℕ → ℕ → ℕ
@@ -121,8 +118,8 @@ module _ (g : Gateway) (request info : List ℕ) (d : Decided g request info) wh
   module _ (none : d .number ≡ 0) where
     parts : (d .read .refusal ≡ 0) × (lastNumber (d .place) (length info) ≡ 0)
     parts =
-        let a = none-first (d .read .refusal) _ (sym (d .isNumber) ∙ none) in
-        let b = none-first (d .byKey) _ (a .1) in
+        let a = none-of-both (d .read .refusal) _ (sym (d .isNumber) ∙ none) in
+        let b = none-of-both (d .byKey) _ (a .1) in
         (a .0, b .1)
 
     pub place-below : d .place < tableSize

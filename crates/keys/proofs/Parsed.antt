@@ -15,7 +15,7 @@ use Rattle.keylist.proofs.Parsing.{goodAt, parse-end, parse-bad, parse-too-many
 use Rattle.keylist.proofs.Walk.{not-empty}
 
 -- no number stands twice
-unfoldable pub Distinct : List ℕ → Type 0
+abbrev pub Distinct : List ℕ → Type 0
 Distinct [] = Unit
 Distinct (x ∷ xs) = (among xs x ≡ false) × Distinct xs
 
@@ -49,12 +49,12 @@ pub record Parsed (more : ℕ) (taken : List ℕ) (cs : List Configuration) : Ty
   fresh : Fresh taken (ids cs)
 
 parsed-none : (more : ℕ) (taken : List ℕ) → Parsed more taken []
-unfolding Distinct Fresh
+unfolding Fresh
 parsed-none more taken = record { few = omega arith; distinct = tt; fresh = tt }
 
 parsed-one : (more : ℕ) (taken : List ℕ) (c : Configuration) (cs : List Configuration) → among taken (c .keyId) ≡ false
     → Parsed more (taken ++ c .keyId ∷ []) cs → Parsed (suc more) taken (c ∷ cs)
-unfolding Distinct Fresh
+unfolding Fresh
 parsed-one more taken c cs new p =
     let rest = fresh-fewer taken (c .keyId) (ids cs) (p .fresh) in
     record { few = omega (arith, p .few); distinct = (rest .1, p .distinct); fresh = (new, rest .0) }

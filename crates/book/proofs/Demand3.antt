@@ -3,7 +3,8 @@
 use Prim.Native.Nat.{ℕ}
 use mathlib.Core.List.{List}
 use Rattle.gateway.specs.Calls.{Call}
-use Rattle.book.specs.Demand3.{Refinement, RefinementHolds, Demand3, Demand3Holds}
+use Rattle.book.specs.Demand3.{Refinement, Demand3, Demand3Holds}
+use Rattle.book.proofs.Refinement.{refinement-holds}
 use Rattle.book.proofs.Moving.{Moved, book-moved}
 
 of-halves : (list : List ℕ) (cap : ℕ) (made : List Call) → Refinement list cap made → Moved list cap made → Demand3 list cap made
@@ -15,5 +16,5 @@ of-halves list cap made same moved =
       samePending = rw (same .sameAnswers, moved .sameBook) (same .samePending);
     }
 
-pub demand3-of-refinement : RefinementHolds → Demand3Holds
-demand3-of-refinement same list cap made = of-halves list cap made (same list cap made) (book-moved list cap made)
+pub demand3-holds : Demand3Holds
+demand3-holds list cap made = of-halves list cap made (refinement-holds list cap made) (book-moved list cap made)

@@ -1,0 +1,40 @@
+-- What the refusal number 0 says of a call.
+-- Assumes nothing.
+use Prim.Native.Nat.{ℕ, zero, suc, _<_}
+use mathlib.Core.Bool.{Bool, false}
+use mathlib.Core.Path.{_≡_, refl}
+use mathlib.Core.List.{List}
+use borrow.Author.Tests.{leb-false}
+use lib.Dec.{leb}
+use lib.ListN.{length}
+use Rattle.wire.specs.Refusals.{unlessRefused}
+use Rattle.wire.proofs.Numbers.{not-refused}
+use Rattle.exchange.specs.Request.{keyIdOf, fieldsOf, requestRefusal}
+use Rattle.keys.specs.Keys.{Key, keyPlace, keyAt, keyRefusal, retireRefusal}
+use Rattle.gateway.specs.Head.{Head, admitRefusal}
+use Rattle.gateway.proofs.Deciding.{none-of-both}
+use Rattle.book.proofs.Admitting.{usable}
+
+-- a property of the state after a call, by its refusal number
+pub unless-kept : {A : Type 0} (P : A → Type 0) (n : ℕ) {a b : A} → (n ≡ 0 → P a) → P b → P (unlessRefused n a b)
+unless-kept P zero accepted refused = accepted refl
+unless-kept P (suc n) accepted refused = refused
+
+pub retire-accepted : (keys : List Key) (place : ℕ) → retireRefusal keys place ≡ 0 → place < length keys
+unfolding retireRefusal
+retire-accepted keys place e = leb-false (length keys) place (not-refused 3 (leb (length keys) place) _ e .0)
+
+pub record Admitted (head : Head) (full : Bool) (request : List ℕ) : Type 0 where
+  pub inside : keyPlace (keyIdOf request) (head .keys) < length (head .keys)
+  pub below : keyAt (head .keys) (keyPlace (keyIdOf request) (head .keys)) .count < head .cap
+  pub room : full ≡ false
+
+pub admit-accepted : (head : Head) (full : Bool) (request : List ℕ) (room : ℕ) → admitRefusal head full request room ≡ 0
+    → Admitted head full request
+unfolding admitRefusal
+admit-accepted head full request room e =
+    let own = none-of-both (requestRefusal request) _ e in
+    let place = keyPlace (keyIdOf request) (head .keys) in
+    let named = none-of-both (keyRefusal (head .cap) (head .keys) place (fieldsOf request)) _ (own .1) in
+    let key = usable (head .cap) (head .keys) place (fieldsOf request) (named .0) in
+    record { inside = key .isKey; below = key .uses; room = not-refused 8 full _ (named .1) .0 }

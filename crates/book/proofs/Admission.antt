@@ -1,0 +1,37 @@
+-- Demand 2's admission rule holds of every gateway that calls reached: there no key id stands twice.
+-- Assumes nothing.
+use mathlib.Core.Path.{_≡_, sym, ap, _∙_}
+use mathlib.Core.List.{List}
+use Prim.Native.Nat.{ℕ}
+use Rattle.keylist.specs.Layout.{parse}
+use Rattle.exchange.specs.Request.{keyIdOf}
+use Rattle.keys.specs.Keys.{Key, keyPlace, keyAt}
+use Rattle.gateway.specs.declared.Gateway.{Gateway}
+use Rattle.gateway.specs.Gateway.{freshGateway, headOf, nextTicket}
+use Rattle.gateway.specs.Calls.{Call, admit, number, gatewayDoes, admitNumber}
+use Rattle.book.specs.Book.{Book, freshBook}
+use Rattle.book.specs.OneCall.{Admissible, AdmissionExactly}
+use Rattle.book.proofs.Numbers.{admit-number}
+use Rattle.book.proofs.Admitting.{admissible, admitted-then}
+use Rattle.book.proofs.KeyCounts.{place-of-id}
+use Rattle.book.proofs.Refining.{Alike, keys-alike}
+use Rattle.book.proofs.Refinement.{fresh-alike, alike-after}
+
+-- the number of admit's answer
+numbered : (g : Gateway) (request info : List ℕ) → number (gatewayDoes g (admit request info) .answer) ≡ admitNumber request info g
+unfolding gatewayDoes
+numbered g request info = admit-number (admitNumber request info g) (nextTicket g) request
+
+-- the key that is named is the first of its id
+first-named : (g : Gateway) (b : Book) (request info : List ℕ) (h : Admissible g request info) → Alike g b
+    → keyPlace (keyIdOf request) (headOf g .keys) ≡ h .place
+first-named g b request info h r =
+    ap (λ (id : ℕ). keyPlace id (headOf g .keys)) (sym (h .named))
+    ∙ place-of-id (headOf g .keys) (h .place) (rw (keys-alike g b r) (r .sound .distinct)) (h .isKey)
+
+pub admission-exactly : AdmissionExactly
+admission-exactly list cap made request info =
+    let r = alike-after (freshGateway (parse list) cap) (freshBook list cap) made (fresh-alike list cap) in (
+      λ e. admissible _ request info (sym (numbered _ request info) ∙ e),
+      λ h. numbered _ request info ∙ admitted-then _ request info h (first-named _ _ request info h r),
+    )

@@ -1,0 +1,62 @@
+-- A key's count is the number of admissions it was given, the tickets are 1, 2, 3 and on, and nothing wraps.
+-- Assumes nothing.
+use Prim.Native.Nat.{ℕ}
+use mathlib.Core.Path.{_≡_, refl}
+use mathlib.Core.List.{List}
+use native.Mathlib.Omega.{arith}
+use Rattle.wire.proofs.Booleans.{either}
+use Rattle.keylist.specs.Layout.{Configuration, Outcome, good, bad, parse}
+use Rattle.keys.specs.Keys.{keyAt}
+use Rattle.gateway.specs.Head.{capHolds, freshHead}
+use Rattle.gateway.specs.Gateway.{freshGateway}
+use Rattle.gateway.specs.Calls.{Call}
+use Rattle.book.specs.Book.{freshBook, bookDoes}
+use Rattle.book.specs.History.{trace}
+use Rattle.book.specs.Demand3.{bookAfter}
+use Rattle.book.specs.Counts.{Counts, CountsHold, NothingWraps, countingFrom}
+use Rattle.book.proofs.KeyCounts.{same-id, same-length, fresh-count}
+use Rattle.book.proofs.Sound.{Sound, ticket-bound}
+use Rattle.book.proofs.Refinement.{fresh-alike, alike-after, refinement-holds}
+use Rattle.book.proofs.Counting.{ids-after, counted, given-after}
+
+-- at first counts and last ticket are 0
+fresh-counts : (o : Outcome (List Configuration)) (cap place : ℕ) → keyAt (freshHead o cap .keys) place .count ≡ 0
+fresh-counts (good cs) cap place = either (capHolds cap) (λ h. rw h (fresh-count cs place)) (λ h. rw h)
+fresh-counts (bad r) cap place = refl
+
+fresh-last : (o : Outcome (List Configuration)) (cap : ℕ) → freshHead o cap .lastTicket ≡ 0
+fresh-last (good cs) cap = either (capHolds cap) (λ h. rw h) (λ h. rw h)
+fresh-last (bad r) cap = refl
+
+-- the book's counts and tickets
+book-counts : (list : List ℕ) (cap : ℕ) (made : List Call) → Sound (freshBook list cap) → Sound (bookAfter list cap made)
+    → Counts (bookAfter list cap made .head) (trace bookDoes (freshBook list cap) made)
+unfolding countingFrom
+book-counts list cap made start end =
+    let fresh = freshBook list cap in
+    let keys = bookAfter list cap made .head .keys in
+    let same = ids-after fresh made in
+    record {
+      admissions = λ place inside.
+          rw (
+            counted fresh made place start (rw (same-length keys (fresh .head .keys) same) at inside),
+            same-id keys (fresh .head .keys) place same,
+            fresh-counts (parse list) cap place,
+          ) (omega arith);
+      withinCap = λ place inside. end .withinCap place;
+      capBound = end .capBound;
+      lastTicket = end .lastTicket;
+      lastTicketBound = ticket-bound (bookAfter list cap made) end;
+      tickets = rw (fresh-last (parse list) cap) at (given-after fresh made);
+    }
+
+pub counts-hold : CountsHold
+counts-hold list cap made =
+    let fresh = fresh-alike list cap in
+    let end = alike-after (freshGateway (parse list) cap) (freshBook list cap) made fresh in
+    rw (end .head, refinement-holds list cap made .sameAnswers) (book-counts list cap made (fresh .sound) (end .sound))
+
+pub nothing-wraps : NothingWraps
+nothing-wraps list cap made =
+    let c = counts-hold list cap made in
+    (omega (arith, c .lastTicketBound), λ place inside. omega (arith, c .withinCap place inside, c .capBound))

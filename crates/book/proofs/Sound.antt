@@ -1,0 +1,137 @@
+-- What every call keeps of the book.
+-- Assumes nothing.
+use Prim.Native.Nat.{ℕ, _+_, _≤_, _<_}
+use mathlib.Core.Bool.{true}
+use mathlib.Core.Path.{_≡_, refl, sym, _∙_}
+use mathlib.Core.List.{List, [], map}
+use native.Mathlib.Omega.{arith}
+use borrow.Author.Tests.{eqb-true, eqb-false, leb-true}
+use lib.Dec.{eqb, leb}
+use lib.ListN.{length, length-set, length-map}
+use Rattle.wire.proofs.Booleans.{either, and-right}
+use Rattle.keylist.specs.Layout.{Configuration, mostConfigurations, good, parse}
+use Rattle.exchange.specs.Request.{keyIdOf, fieldsOf}
+use Rattle.exchange.specs.Exchange.{exchangeOf, asked}
+use Rattle.exchange.specs.Steps.{Step, next}
+use Rattle.keys.specs.Keys.{Key, keyPlace, keyAt, freshKey, retired}
+use Rattle.gateway.specs.Head.{capHolds, mostUses, refusedHead}
+use Rattle.gateway.specs.Calls.{Call, admit, retire, onTicket, reporting}
+use Rattle.book.specs.Book.{Book, hasAll, admitted, keyRetired, moved, admitNumber, retireNumber, ticketNumber, bookDoes}
+use Rattle.book.specs.Counts.{sumOfCounts}
+use Rattle.book.proofs.Passing.{passing, passing-append}
+use Rattle.book.proofs.Table.{holding, holding-one, holding-other, holding-replaced, found-has}
+use Rattle.book.proofs.Accepting.{unless-kept, retire-accepted, Admitted, admit-accepted}
+use Rattle.exchange.proofs.Moves.{accepted-pending, next-ticket}
+use Rattle.keys.proofs.Parsed.{Distinct}
+use Rattle.keys.proofs.Views.{parsed-view, parsed-distinct}
+use Rattle.book.proofs.KeyCounts.{ids, sum-bound, fresh-ids, fresh-count, fresh-sum}
+use Rattle.book.proofs.KeyCounts.{used-within, used-sum, used-ids, number-kept, retired-sum, retired-ids}
+
+-- what holds of every book that calls reach
+pub record Sound (b : Book) : Type 0 where
+  pub capBound : b .head .cap ≤ mostUses
+  pub keysBound : length (b .head .keys) ≤ mostConfigurations
+  pub withinCap : (place : ℕ) → keyAt (b .head .keys) place .count ≤ b .head .cap
+  pub distinct : Distinct (ids (b .head .keys))
+  pub lastTicket : b .head .lastTicket ≡ sumOfCounts (b .head .keys)
+  -- no ticket is pending twice, and none that is yet to be given
+  pub once : (ticket : ℕ) → holding ticket (b .pending) ≤ 1
+  pub given : (ticket : ℕ) → b .head .lastTicket < ticket → holding ticket (b .pending) ≡ 0
+
+-- 16 keys of at most 1,000,000,000 uses each
+pub ticket-bound : (b : Book) → Sound b → b .head .lastTicket ≤ 16000000000
+ticket-bound b s = omega (arith, sum-bound (b .head .keys) (λ place. omega (arith, s .withinCap place)))
+
+-- after an accepted admit
+pub admitted-sound : (request : List ℕ) (b : Book) → Sound b → Admitted (b .head) (hasAll b) request → Sound (admitted request b)
+admitted-sound request b s a =
+    let place = keyPlace (keyIdOf request) (b .head .keys) in
+    let new = asked (b .head .lastTicket + 1) (fieldsOf request) in
+    record {
+      capBound = s .capBound;
+      keysBound = rw length-set (s .keysBound);
+      withinCap = used-within (b .head .cap) place (b .head .keys) (s .withinCap) (a .inside) (a .below);
+      distinct = rw used-ids (s .distinct);
+      lastTicket = rw (used-sum, a .inside) (omega arith);
+      once = λ ticket.
+          rw passing-append
+          (either (eqb (new .ticket .0) ticket)
+          (λ e. omega (arith, s .given ticket (omega (arith, eqb-true (new .ticket .0) ticket e)), holding-one ticket new))
+          (λ e. omega (arith, s .once ticket, holding-other ticket new (eqb-false (new .ticket .0) ticket e))));
+      given = λ ticket later.
+          rw passing-append
+          (omega (arith, s .given ticket (omega arith), holding-other ticket new (omega arith)));
+    }
+
+-- after an accepted retire
+pub retired-sound : (id : ℕ) (b : Book) → Sound b → keyPlace id (b .head .keys) < length (b .head .keys) → Sound (keyRetired id b)
+retired-sound id b s inside =
+    let keys = b .head .keys in
+    record {
+      capBound = s .capBound;
+      keysBound = rw length-set (s .keysBound);
+      withinCap = λ place.
+          rw (number-kept (λ (key : Key). key .count) retired (keyPlace id keys) place keys refl) (s .withinCap place);
+      distinct = rw retired-ids (s .distinct);
+      lastTicket = rw retired-sum (s .lastTicket);
+      once = s .once;
+      given = s .given;
+    }
+
+-- after an accepted call on a ticket
+pub moved-sound : (ticket : ℕ) (step : Step) (b : Book) → Sound b → ticketNumber ticket step b ≡ 0 → Sound (moved ticket step b)
+moved-sound ticket step b s accepted =
+    let e = exchangeOf ticket (b .pending) in
+    let fewer : (other : ℕ) → holding other (moved ticket step b .pending) ≤ holding other (b .pending) =
+    λ other. holding-replaced other ticket (next step e) (b .pending)
+    (λ h. next-ticket step e h ∙ found-has ticket (b .pending) (accepted-pending step e accepted)) in
+    record {
+      capBound = s .capBound;
+      keysBound = s .keysBound;
+      withinCap = s .withinCap;
+      distinct = s .distinct;
+      lastTicket = s .lastTicket;
+      once = λ other. omega (arith, fewer other, s .once other);
+      given = λ other later. omega (arith, fewer other, s .given other later);
+    }
+
+-- after every call
+pub sound-kept : (b : Book) (call : Call) → Sound b → Sound (bookDoes b call .state)
+unfolding bookDoes
+sound-kept b (admit request info) s =
+    unless-kept Sound (admitNumber request info b)
+    (λ e. admitted-sound request b s (admit-accepted (b .head) (hasAll b) request (length info) e)) s
+sound-kept b (retire id) s =
+    unless-kept Sound (retireNumber id b)
+    (λ e. retired-sound id b s (retire-accepted (b .head .keys) (keyPlace id (b .head .keys)) e)) s
+sound-kept b (onTicket ticket step) s =
+    unless-kept Sound (ticketNumber ticket step b) (moved-sound ticket step b s) s
+sound-kept b reporting s = s
+
+-- after setup, refused and accepted
+pub refused-sound : Sound (record { head = refusedHead; pending = [] })
+unfolding sumOfCounts passing
+refused-sound =
+    record {
+      capBound = omega arith;
+      keysBound = omega arith;
+      withinCap = λ place. omega arith;
+      distinct = tt;
+      lastTicket = refl;
+      once = λ ticket. omega arith;
+      given = λ ticket later. refl;
+    }
+
+pub ready-sound : (list : List ℕ) (cap : ℕ) (cs : List Configuration) → parse list ≡ good cs → capHolds cap ≡ true
+    → Sound (record { head = record { cap = cap; lastTicket = 0; keys = map freshKey cs }; pending = [] })
+unfolding passing
+ready-sound list cap cs e h =
+    record {
+      capBound = leb-true cap mostUses (and-right (leb 1 cap) (leb cap mostUses) h);
+      keysBound = rw length-map (parsed-view list cs e .1);
+      withinCap = λ place. rw fresh-count (omega arith);
+      distinct = rw fresh-ids (parsed-distinct list cs e);
+      lastTicket = sym (fresh-sum cs);
+      once = λ ticket. omega arith;
+      given = λ ticket later. refl;
+    }
