@@ -5,10 +5,10 @@ use mathlib.Core.List.{List}
 use Prim.Native.Nat.{ℕ}
 use Rattle.keylist.specs.Layout.{parse}
 use Rattle.exchange.specs.Request.{keyIdOf}
-use Rattle.keys.specs.Keys.{Key, keyPlace, keyAt}
+use Rattle.keys.specs.Keys.{keyPlace}
 use Rattle.gateway.specs.declared.Gateway.{Gateway}
 use Rattle.gateway.specs.Gateway.{freshGateway, headOf, nextTicket}
-use Rattle.gateway.specs.Calls.{Call, admit, number, gatewayDoes, admitNumber}
+use Rattle.gateway.specs.Calls.{admit, number, gatewayDoes, admitNumber}
 use Rattle.book.specs.Book.{Book, freshBook}
 use Rattle.book.specs.OneCall.{Admissible, AdmissionExactly}
 use Rattle.book.proofs.Numbers.{admit-number}

@@ -1,11 +1,9 @@
 -- Admission exactly: the chain of refusals gives none if and only if demand 2's conditions hold.
 -- Assumes nothing.
-use mathlib.Core.Path.{_≡_, refl, sym, ap, _∙_}
-use mathlib.Core.Logic.{_↔_}
+use mathlib.Core.Path.{_≡_, refl}
 use mathlib.Core.Bool.{Bool, true, false, not}
 use mathlib.Core.List.{List}
-use Prim.Native.Nat.{ℕ, zero, suc, _≤_, _<_}
-use native.Mathlib.Omega.{arith}
+use Prim.Native.Nat.{ℕ, _<_}
 use borrow.Author.Tests.{eqb-true, eq-eqb, leb-false, lt-leb, ltb-false, le-ltb, not-false}
 use lib.Dec.{eqb, leb, ltb}
 use lib.ListN.{length, getD}
@@ -25,11 +23,12 @@ use Rattle.exchange.proofs.Requests.{accepted-request, request-accepted}
 use Rattle.exchange.specs.Exchange.{free, isFree}
 use Rattle.keys.specs.Keys.{Key, hasId, keyPlace, keyAt, noKey, isPair, offers, keyRefusal}
 use Rattle.gateway.specs.declared.Gateway.{Gateway}
-use Rattle.gateway.specs.Head.{_orElse_, admitRefusal}
+use Rattle.gateway.specs.Head.{admitRefusal}
 use Rattle.gateway.specs.Gateway.{headOf, freePlace, isFull}
 use Rattle.gateway.specs.Calls.{admitNumber}
 use Rattle.gateway.proofs.Deciding.{none-of-both, both-none}
-use Rattle.book.specs.OneCall.{Holds, noPair, Admissible}
+use Rattle.book.specs.OneCall.{Holds, Admissible}
+use Rattle.keys.specs.Stored.{noPair}
 use Rattle.book.proofs.Placing.{place-is-free}
 
 -- a negated test that fails, and one that holds

@@ -11,47 +11,47 @@ use lib.ListN.{length}
 use Rattle.wire.specs.Search.{anyPasses, among}
 use Rattle.wire.proofs.Booleans.{either, true-or-false}
 use Rattle.gateway.specs.Calls.{Call, admit, retire, onTicket, reporting}
-use Rattle.book.specs.History.{Event, those}
+use Rattle.book.specs.History.{Event, filtered}
 use Rattle.book.specs.Demand3.{keepsOrder, isOn}
 use Rattle.book.proofs.Pulling.{itsCalls, otherCalls}
 
 -- they are not more than all
-pub those-short : (p : Event → Bool) (es : List Event) → length (those p es) ≤ length es
-unfolding those
-those-short p [] = omega arith
-those-short p (e ∷ es) =
-    let rest : length (those p es) ≤ length es = those-short p es in
+pub filtered-short : (p : Event → Bool) (es : List Event) → length (filtered p es) ≤ length es
+unfolding filtered
+filtered-short p [] = omega arith
+filtered-short p (e ∷ es) =
+    let rest : length (filtered p es) ≤ length es = filtered-short p es in
     either (p e) (λ h. rw h (omega arith)) (λ h. rw h (omega arith))
 
 module _ (p q : Event → Bool) where
   -- a test of those that pass another, where it fails whenever that one does
-  those-those : ((e : Event) → q e ≡ false → p e ≡ false) → (es : List Event) → those p (those q es) ≡ those p es
-  unfolding those
-  those-those both [] = refl
-  those-those both (e ∷ es) =
-      let rest = those-those both es in
+  filtered-filtered : ((e : Event) → q e ≡ false → p e ≡ false) → (es : List Event) → filtered p (filtered q es) ≡ filtered p es
+  unfolding filtered
+  filtered-filtered both [] = refl
+  filtered-filtered both (e ∷ es) =
+      let rest = filtered-filtered both es in
       either
       (q e)
       (λ h. rw h (either (p e) (λ k. rw (k, rest)) (λ k. rw (k, rest))))
       (λ h. rw (h, both e h, rest))
 
   -- where it fails whenever the other does not
-  those-none : ((e : Event) → q e ≡ true → p e ≡ false) → (es : List Event) → those p (those q es) ≡ []
-  unfolding those
-  those-none none [] = refl
-  those-none none (e ∷ es) =
-      either (q e) (λ h. rw (h, none e h) (those-none none es)) (λ h. rw h (those-none none es))
+  filtered-none : ((e : Event) → q e ≡ true → p e ≡ false) → (es : List Event) → filtered p (filtered q es) ≡ []
+  unfolding filtered
+  filtered-none none [] = refl
+  filtered-none none (e ∷ es) =
+      either (q e) (λ h. rw (h, none e h) (filtered-none none es)) (λ h. rw h (filtered-none none es))
 
 -- the list is those that pass a test and those that fail it
-pub those-both : (p : Event → Bool) (es : List Event) → List·Permᴰ (those p es ++ those (λ e. not (p e)) es) es
-unfolding those
-those-both p [] = List·Permᴰ·nil
-those-both p (e ∷ es) =
-    let rest = those-both p es in
+pub filtered-both : (p : Event → Bool) (es : List Event) → List·Permᴰ (filtered p es ++ filtered (λ e. not (p e)) es) es
+unfolding filtered
+filtered-both p [] = List·Permᴰ·nil
+filtered-both p (e ∷ es) =
+    let rest = filtered-both p es in
     either
     (p e)
     (λ h. rw h (List·Permᴰ·cons refl rest))
-    (λ h. rw h (List·Permᴰ·trans (Permᴰ·middle e (those p es) (those (λ e. not (p e)) es)) (List·Permᴰ·cons refl rest)))
+    (λ h. rw h (List·Permᴰ·trans (Permᴰ·middle e (filtered p es) (filtered (λ e. not (p e)) es)) (List·Permᴰ·cons refl rest)))
 
 -- among one ticket is that ticket only
 pub among-one : (t u : ℕ) → among (t ∷ []) u ≡ true → t ≡ u
@@ -64,7 +64,7 @@ not-among-one t u apart = rw (ne-eqb t u apart)
 
 -- no call is on no ticket
 pub on-none : (es : List Event) → itsCalls [] es ≡ []
-unfolding those anyPasses
+unfolding filtered anyPasses
 on-none [] = refl
 on-none (e ∷ es) = rw (off (e .call)) (on-none es)
   where
@@ -76,13 +76,13 @@ on-none (e ∷ es) = rw (off (e .call)) (on-none es)
 
 -- admissions and key retirements
 abbrev pub inOrder : List Event → List Event
-inOrder events = those (λ e. keepsOrder (e .call)) events
+inOrder events = filtered (λ e. keepsOrder (e .call)) events
 
 -- these are on no ticket
 pub order-of-others : (tickets : List ℕ) (es : List Event)
     → inOrder (otherCalls tickets es) ≡ inOrder es
 order-of-others tickets es =
-    those-those
+    filtered-filtered
     (λ e. keepsOrder (e .call))
     (λ e. not (isOn tickets (e .call)))
     (λ e h. moves (e .call) (not-false (isOn tickets (e .call)) h))
@@ -97,7 +97,7 @@ order-of-others tickets es =
 -- without the calls on one ticket, those on another are the same
 pub others-of-others : (t u : ℕ) → (t ≡ u → ⊥) → (es : List Event) → itsCalls (u ∷ []) (otherCalls (t ∷ []) es) ≡ itsCalls (u ∷ []) es
 others-of-others t u apart es =
-    those-those
+    filtered-filtered
     (λ e. isOn (u ∷ []) (e .call))
     (λ e. not (isOn (t ∷ []) (e .call)))
     (λ e h. off (e .call) (not-false (isOn (t ∷ []) (e .call)) h))
@@ -112,4 +112,4 @@ others-of-others t u apart es =
 -- and there are none on that ticket
 pub own-of-others : (tickets : List ℕ) (es : List Event) → itsCalls tickets (otherCalls tickets es) ≡ []
 own-of-others tickets es =
-    those-none (λ e. isOn tickets (e .call)) (λ e. not (isOn tickets (e .call))) (λ e h. not-true (isOn tickets (e .call)) h) es
+    filtered-none (λ e. isOn tickets (e .call)) (λ e. not (isOn tickets (e .call))) (λ e h. not-true (isOn tickets (e .call)) h) es

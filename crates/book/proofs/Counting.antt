@@ -17,8 +17,8 @@ use Rattle.exchange.specs.Request.{keyIdOf}
 use Rattle.keys.specs.Keys.{Key, noKey, hasId, keyPlace, keyAt, used, retired}
 use Rattle.gateway.specs.Head.{admitAnswer}
 use Rattle.gateway.specs.Calls.{Call, admit, retire, onTicket, reporting, Answer, toAdmit}
-use Rattle.book.specs.Book.{Book, hasAll, admitted, keyRetired, moved, admitNumber, retireNumber, ticketNumber, bookDoes}
-use Rattle.book.specs.History.{Event, event, trace, final, those, admissionsOf, ticketsOf, keyIdsOf}
+use Rattle.book.specs.Book.{Book, setIsFull, admitted, keyRetired, moved, admitNumber, retireNumber, ticketNumber, bookDoes}
+use Rattle.book.specs.History.{Event, event, trace, final, filtered, admissionsOf, ticketsOf, keyIdsOf}
 use Rattle.book.specs.Counts.{admissionsOfKey, ticketsGiven, countingFrom}
 use Rattle.book.proofs.Accepting.{unless-kept, Admitted, admit-accepted}
 use Rattle.book.proofs.KeyCounts.{ids, key-itself, key-changed, number-kept, used-ids, retired-ids, same-id, same-length, place-of-id}
@@ -47,7 +47,7 @@ abbrev gain : Answer → ℕ → ℕ
 gain answer id = pick (among (keyIdsOf answer) id) 1 0
 
 -- admit adds one to the count of the key that it names, the other calls nothing
-admit-gains : (request : List ℕ) (b : Book) (n place : ℕ) → Sound b → (n ≡ 0 → Admitted (b .head) (hasAll b) request)
+admit-gains : (request : List ℕ) (b : Book) (n place : ℕ) → Sound b → (n ≡ 0 → Admitted (b .head) (setIsFull b) request)
     → place < length (b .head .keys)
     → keyAt (unlessRefused n (admitted request b) b .head .keys) place .count
     ≡ keyAt (b .head .keys) place .count
@@ -79,7 +79,7 @@ gains : (b : Book) (call : Call) (place : ℕ) → Sound b → place < length (b
     ≡ keyAt (b .head .keys) place .count + gain (bookDoes b call .answer) (keyAt (b .head .keys) place .id)
 unfolding bookDoes admissionsOf anyPasses
 gains b (admit request info) place s inside =
-    admit-gains request b (admitNumber request info b) place s (admit-accepted (b .head) (hasAll b) request (length info)) inside
+    admit-gains request b (admitNumber request info b) place s (admit-accepted (b .head) (setIsFull b) request (length info)) inside
 gains b (retire id) place s inside =
     no-gain (retireNumber id b) b (keyRetired id b) place
     (number-kept (λ (key : Key). key .count) retired (keyPlace id (b .head .keys)) place (b .head .keys) refl)
@@ -88,14 +88,14 @@ gains b reporting place s inside = omega arith
 
 -- the counts along a history
 admissions-more : (id : ℕ) (e : Event) (es : List Event) → admissionsOfKey id (e ∷ es) ≡ gain (e .answer) id + admissionsOfKey id es
-unfolding those
+unfolding filtered
 admissions-more id e es =
     either (among (keyIdsOf (e .answer)) id) (λ t. rw t (omega arith)) (λ t. rw t (omega arith))
 
 pub counted : (b : Book) (made : List Call) (place : ℕ) → Sound b → place < length (b .head .keys)
     → keyAt (final bookDoes b made .head .keys) place .count
     ≡ keyAt (b .head .keys) place .count + admissionsOfKey (keyAt (b .head .keys) place .id) (trace bookDoes b made)
-unfolding final trace those
+unfolding final trace filtered
 counted b [] place s inside = omega arith
 counted b (call ∷ made) place s inside =
     let keys = b .head .keys in

@@ -19,13 +19,13 @@ use Rattle.exchange.specs.Steps.{Step, openResult, respond, abandon, refusal, r
 use Rattle.gateway.specs.Head.{Head}
 use Rattle.gateway.specs.Calls.{Call, admit, retire, onTicket, reporting}
 use Rattle.book.specs.Book.{Book, freshBook, bookDoes}
-use Rattle.book.specs.History.{Event, event, trace, final, those, admissionsOf}
+use Rattle.book.specs.History.{Event, event, trace, final, filtered, admissionsOf}
 use Rattle.book.specs.Demand3.{struck, isOn, withOwnCalls, movedUp, calls}
 use Rattle.book.proofs.Pending.{asked-other, exchange-behind}
 use Rattle.book.proofs.Accepted.{numberOf, given}
 use Rattle.book.proofs.Runs.{Run, run-append, run-trace, run-final, struck-run}
 use Rattle.book.proofs.Pulling.{Pulled, pull, itsCalls, otherCalls}
-use Rattle.book.proofs.Chosen.{those-short, those-both, among-one, not-among-one, on-none, inOrder, order-of-others, others-of-others, own-of-others}
+use Rattle.book.proofs.Chosen.{filtered-short, filtered-both, among-one, not-among-one, on-none, inOrder, order-of-others, others-of-others, own-of-others}
 
 -- an accepted call on a ticket found its exchange
 found : (step : Step) (e : Exchange) → refusal step e ≡ 0 → isFree e ≡ false
@@ -59,13 +59,13 @@ module _ (all : List Event) (c : Book) where
 
     -- it is not a call on a ticket of whose calls none are left
     on-pending : (t : ℕ) (step : Step) → itsCalls (t ∷ []) (told (onTicket t step) ∷ events) ≡ [] → ⊥
-    unfolding those anyPasses
+    unfolding filtered anyPasses
     on-pending t step e = let none = rw (eq-eqb t t refl) at e in let z : _≡_ {A = ℕ} 0 1 = cc in omega arith
 
     -- a key retirement has no calls of its own
     sort-retire : (id : ℕ) → numberOf b (retire id) ≡ 0 → Rest b (told (retire id) ∷ events) → Run (given b (retire id) .state) events c
         → CanSort events → Sorted b c (withOwnCalls all (inOrder (told (retire id) ∷ events))) (told (retire id) ∷ events)
-    unfolding withOwnCalls those admissionsOf
+    unfolding withOwnCalls filtered admissionsOf
     sort-retire id e rest r sort =
         let s = sort (given b (retire id) .state) (record { old = rest .old; new = rest .new }) r in
         rw (on-none all)
@@ -84,7 +84,7 @@ module _ (all : List Event) (c : Book) where
 
       -- those others are a rest at the book to which the calls on the ticket lead
       rest-others : Rest b (told (admit request info) ∷ events) → (p : Pulled (ticket ∷ []) opened c events) → Rest (p .between) others
-      unfolding those
+      unfolding filtered
       rest-others rest p =
           let last : p .between .head .lastTicket ≡ ticket = ap (λ (h : Head). h .lastTicket) (p .beside .head) in
           record {
@@ -105,13 +105,13 @@ module _ (all : List Event) (c : Book) where
       -- an admission, its own calls behind it, and then the others in their order
       sort-admit : numberOf b (admit request info) ≡ 0 → Rest b (told (admit request info) ∷ events) → Run opened events c → CanSort others
           → Sorted b c (withOwnCalls all (inOrder (told (admit request info) ∷ events))) (told (admit request info) ∷ events)
-      unfolding withOwnCalls those admissionsOf
+      unfolding withOwnCalls filtered admissionsOf
       sort-admit e rest r sort =
           let p = pull (ticket ∷ []) opened c events (λ t on. omega (arith, among-one ticket t on)) r in
           let s = sort (p .between) (rest-others rest p) (p .rest) in
           let own = itsCalls (ticket ∷ []) events in
           let run = run-append opened (p .between) c own (withOwnCalls all (inOrder others)) (p .first) (s .run) in
-          let perm = List·Permᴰ·trans (Permᴰ·append-left own (s .perm)) (those-both (λ e. isOn (ticket ∷ []) (e .call)) events) in
+          let perm = List·Permᴰ·trans (Permᴰ·append-left own (s .perm)) (filtered-both (λ e. isOn (ticket ∷ []) (e .call)) events) in
           rw (← rest .new ticket (omega arith), ← order-of-others (ticket ∷ []) events)
           (record { run = (record { accepted = e; told = refl }, run); perm = List·Permᴰ·cons refl perm })
 
@@ -120,7 +120,7 @@ module _ (all : List Event) (c : Book) where
         → ((es : List Event) → length es ≤ length events → CanSort es)
         → Sorted b c (withOwnCalls all (inOrder (told call ∷ events))) (told call ∷ events)
     sort-call (admit request info) e rest r sort =
-        sort-admit request info e rest r (sort others (those-short (λ e. not (isOn (ticket ∷ []) (e .call))) events))
+        sort-admit request info e rest r (sort others (filtered-short (λ e. not (isOn (ticket ∷ []) (e .call))) events))
     sort-call (retire id) e rest r sort = sort-retire id e rest r (sort events (omega arith))
     sort-call (onTicket t step) e rest r sort = absurd (on-pending t step (rest .old t (found step (exchangeOf t (b .pending)) e)))
     sort-call reporting e rest r sort = absurd (omega arith)
@@ -131,7 +131,7 @@ module _ (all : List Event) (c : Book) where
       rw (← r .0 .told) (sort-call b events (k .call) (r .0 .accepted) (rw (← r .0 .told) at rest) (r .1) sort)
 
   sort-none : CanSort []
-  unfolding withOwnCalls those
+  unfolding withOwnCalls filtered
   sort-none b rest r = record { run = r; perm = List·Permᴰ·nil }
 
   -- by the number of events, since others are left out before the rest is sorted

@@ -7,15 +7,16 @@ use Prim.Native.Nat.{ℕ, zero, suc, _≤_}
 use native.Mathlib.Omega.{arith}
 use borrow.Author.Tests.{eqb-true, ne-eqb}
 use lib.Dec.{eqb}
-use Rattle.wire.proofs.Booleans.{either}
+use Rattle.wire.proofs.Booleans.{either, true-or-false}
 use Rattle.exchange.specs.declared.Exchange.{Exchange}
 use Rattle.exchange.specs.Exchange.{isFree, isAsked, isOpened, exchangeOf, askedPhase, openedPhase}
 use Rattle.exchange.specs.Steps.{Step, openResult, respond, abandon, refusal, openAnswer, toOpen, answer}
+use Rattle.gateway.specs.declared.Gateway.{Gateway}
 use Rattle.gateway.specs.Head.{statusOf, admitAnswer}
 use Rattle.gateway.specs.Gateway.{nextTicket}
-use Rattle.gateway.specs.Calls.{toAdmit, toStep, unprotectedStatus, gatewayDoes, admitNumber}
+use Rattle.gateway.specs.Calls.{Call, admit, retire, onTicket, reporting, toAdmit, toStep, unprotectedStatus, gatewayDoes, admitNumber}
 use Rattle.book.specs.History.{gatewayAfter}
-use Rattle.book.specs.OneCall.{Unprotected}
+use Rattle.book.specs.OneCall.{Unprotected, isBeforeOpening}
 use Rattle.book.proofs.Numbers.{admit-number, step-number}
 
 -- every refusal of admit has a status
@@ -40,18 +41,29 @@ unfolding unprotectedStatus
 refused-opening zero success h = absurd (h refl)
 refused-opening (suc n) success h = refl
 
--- an opened exchange is not opened again
-opened-refuses : (success : Bool) (n : ℕ) (e : Exchange) → isOpened e ≡ true → refusal (openResult success n) e ≡ 0 → ⊥
+-- an exchange that is not asked is not opened
+not-asked-refuses : (success : Bool) (n : ℕ) (e : Exchange) → isAsked e ≡ false → refusal (openResult success n) e ≡ 0 → ⊥
 unfolding refusal
-opened-refuses success n e o z =
-    let other : isAsked e ≡ false = ne-eqb (e .phase .0) askedPhase (λ a. let p = eqb-true (e .phase .0) openedPhase o in omega arith) in
+not-asked-refuses success n e other z =
     either (isFree e) (λ f. omega (arith, rw f at z)) (λ f. omega (arith, rw (f, other) at z))
 
-opened-silent : (step : Step) (e : Exchange) → isOpened e ≡ true → unprotectedStatus (toStep (answer step e)) ≡ 0
+-- and nothing of it goes out
+not-asked-silent : (step : Step) (e : Exchange) → isAsked e ≡ false → unprotectedStatus (toStep (answer step e)) ≡ 0
 unfolding answer unprotectedStatus
-opened-silent (openResult success n) e o = refused-opening _ success (opened-refuses success n e o)
-opened-silent (respond enc nonce plain salt) e o = refl
-opened-silent abandon e o = refl
+not-asked-silent (openResult success n) e o = refused-opening _ success (not-asked-refuses success n e o)
+not-asked-silent (respond enc nonce plain salt) e o = refl
+not-asked-silent abandon e o = refl
+
+opened-not-asked : (e : Exchange) → isOpened e ≡ true → isAsked e ≡ false
+opened-not-asked e o =
+    ne-eqb (e .phase .0) askedPhase (λ a. let p = eqb-true (e .phase .0) openedPhase o in omega arith)
+
+nothing-else : (g : Gateway) (call : Call) → isBeforeOpening g call ≡ false → unprotectedStatus (gatewayDoes g call .answer) ≡ 0
+unfolding gatewayDoes unprotectedStatus
+nothing-else g (admit request info) h = absurd (true-or-false refl h)
+nothing-else g (retire id) h = refl
+nothing-else g (onTicket ticket step) h = not-asked-silent step (exchangeOf ticket (g .table)) h
+nothing-else g reporting h = refl
 
 pub unprotected : Unprotected
 unfolding gatewayDoes
@@ -59,5 +71,8 @@ unprotected =
     record {
       refusedAdmit = λ g request info h. refused-status (admitNumber request info g) (nextTicket g) request (λ z. h (admit-number (admitNumber request info g) (nextTicket g) request ∙ z));
       failedOpening = λ g ticket n z. failed-status n (exchangeOf ticket (g .table)) (sym (step-number (openResult false n) (exchangeOf ticket (g .table))) ∙ z);
-      afterOpening = λ list cap made ticket step o. opened-silent step (exchangeOf ticket (gatewayAfter list cap made .table)) o;
+      nothingElse = nothing-else;
+      afterOpening = λ list cap made ticket step o.
+          let e = exchangeOf ticket (gatewayAfter list cap made .table) in
+          not-asked-silent step e (opened-not-asked e o);
     }

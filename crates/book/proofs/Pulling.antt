@@ -11,7 +11,7 @@ use Rattle.exchange.specs.Exchange.{exchangeOf}
 use Rattle.exchange.specs.Steps.{next}
 use Rattle.gateway.specs.Calls.{Call, admit, retire, onTicket, reporting}
 use Rattle.book.specs.Book.{Book}
-use Rattle.book.specs.History.{Event, those}
+use Rattle.book.specs.History.{Event, filtered}
 use Rattle.book.specs.Demand3.{isOn}
 use Rattle.book.proofs.Pending.{next-other, exchange-beside}
 use Rattle.book.proofs.Accepted.{given}
@@ -28,10 +28,10 @@ later-ticket b reporting = omega arith
 module _ (tickets : List ℕ) where
   -- calls on the tickets, and the others
   abbrev pub itsCalls : List Event → List Event
-  itsCalls events = those (λ e. isOn tickets (e .call)) events
+  itsCalls events = filtered (λ e. isOn tickets (e .call)) events
 
   abbrev pub otherCalls : List Event → List Event
-  otherCalls events = those (λ e. not (isOn tickets (e .call))) events
+  otherCalls events = filtered (λ e. not (isOn tickets (e .call))) events
 
   -- calls on the tickets leave the head and the exchanges of the other tickets
   pub record Beside (b c : Book) : Type 0 where
@@ -90,12 +90,12 @@ module _ (tickets : List ℕ) where
 
     -- and one after the other. The step stands alone: in the recursion itself antt runs out of steps
     pass-more : (x : Event) (es : List Event) → CanPass (itsCalls es) → CanPass (itsCalls (x ∷ es))
-    unfolding those
+    unfolding filtered
     pass-more x es rest =
         either (isOn tickets (x .call)) (λ on. rw on (pass-one x (itsCalls es) on rest)) (λ on. rw on rest)
 
     pass-none : CanPass (itsCalls [])
-    unfolding those
+    unfolding filtered
     pass-none b before h r =
         record { between = b; run = refl; beside = record { head = refl; others = λ t o. refl }; happens = h; leads = r }
 
@@ -111,7 +111,7 @@ module _ (tickets : List ℕ) where
     pub beside : Beside b between
 
   pub pull : (b c : Book) (es : List Event) → GivenBefore b → Run b es c → Pulled b c es
-  unfolding those
+  unfolding filtered
   pull b c [] before r =
       record { between = b; first = refl; rest = r; beside = record { head = refl; others = λ t o. refl } }
   pull b c (k ∷ es) before r =

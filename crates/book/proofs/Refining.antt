@@ -4,7 +4,7 @@ use Prim.Native.Nat.{ℕ, zero, suc, _+_, _<_}
 use mathlib.Core.Path.{_≡_, refl, ap, sym, _∙_}
 use mathlib.Core.List.{List, [], _∷_, List·Permᴰ, List·Permᴰ·trans, Permᴰ·append-right}
 use native.Mathlib.Omega.{arith}
-use borrow.Author.Tests.{leb-false, ne-eqb}
+use borrow.Author.Tests.{ne-eqb}
 use lib.ListN.{length, getD, set, length-set}
 use lib.Seq.{set-getD}
 use Rattle.wire.specs.Refusals.{unlessRefused}
@@ -12,20 +12,17 @@ use Rattle.wire.specs.Search.{firstPlace}
 use Rattle.book.proofs.Placing.{place-is-free}
 use Rattle.exchange.specs.declared.Exchange.{Exchange}
 use Rattle.exchange.specs.Request.{keyIdOf, fieldsOf}
-use Rattle.exchange.specs.Exchange.{free, isFree, hasTicket, exchangeOf, asked}
+use Rattle.exchange.specs.Exchange.{free, hasTicket, exchangeOf, asked}
 use Rattle.exchange.specs.Steps.{Step, next}
 use Rattle.keys.specs.Keys.{keyPlace}
 use Rattle.keys.specs.Stored.{keysOf}
 use Rattle.gateway.specs.declared.Gateway.{Gateway}
 use Rattle.gateway.specs.Head.{Head}
-use Rattle.gateway.specs.Gateway.{tableSize, headOf, pendingIn, freePlace, nextTicket, isFull}
-use Rattle.gateway.specs.Gateway.{retiredGateway, withExchange, admitted as gatewayAdmitted}
-use Rattle.gateway.specs.Calls.{Call, admit, retire, onTicket, reporting, gatewayDoes}
-use Rattle.gateway.specs.Calls.{admitNumber as gatewayAdmitNumber, retireNumber as gatewayRetireNumber}
-use Rattle.book.specs.Book.{Book, hasAll, admitted, keyRetired, moved, admitNumber, retireNumber, ticketNumber, bookDoes}
+use Rattle.gateway.specs.Gateway.{tableSize, headOf, pendingIn, freePlace, nextTicket, isFull, retiredGateway, withExchange, admitted as gatewayAdmitted}
+use Rattle.gateway.specs.Calls.{Call, admit, retire, onTicket, reporting, gatewayDoes, admitNumber as gatewayAdmitNumber, retireNumber as gatewayRetireNumber}
+use Rattle.book.specs.Book.{Book, setIsFull, admitted, keyRetired, moved, admitNumber, retireNumber, ticketNumber, bookDoes}
 use Rattle.book.proofs.Passing.{passing-permuted, length-permuted}
-use Rattle.book.proofs.Table.{holding-pending, found-permuted, found-pending, full-alike}
-use Rattle.book.proofs.Table.{replaced-permuted, replaced-in-table, admitted-in-table}
+use Rattle.book.proofs.Table.{holding-pending, found-permuted, found-pending, full-alike, replaced-permuted, replaced-in-table, admitted-in-table}
 use Rattle.book.proofs.Accepting.{retire-accepted, Admitted, admit-accepted}
 use Rattle.keys.proofs.Views.{used-view, retired-view}
 use Rattle.book.proofs.Sound.{Sound, ticket-bound, admitted-sound, retired-sound, moved-sound}
@@ -48,7 +45,7 @@ last-alike : (g : Gateway) (b : Book) → Alike g b → g .«last_ticket» .0 �
 last-alike g b r = ap (λ (h : Head). h .lastTicket) (r .head)
 
 -- what the calls ask of them
-full-told : (g : Gateway) (b : Book) → Alike g b → isFull (g .table) ≡ hasAll b
+full-told : (g : Gateway) (b : Book) → Alike g b → isFull (g .table) ≡ setIsFull b
 full-told g b r = rw (full-alike (g .table), r .places, length-permuted (r .pending))
 
 found-told : (ticket : ℕ) (g : Gateway) (b : Book) → Alike g b → exchangeOf ticket (g .table) ≡ exchangeOf ticket (b .pending)
@@ -83,7 +80,7 @@ same-buffer g b (onTicket ticket step) r = rw (found-told ticket g b r)
 same-buffer g b reporting r = refl
 
 -- an accepted admit keeps them alike
-admitted-alike : (request : List ℕ) (g : Gateway) (b : Book) → Alike g b → Admitted (b .head) (hasAll b) request
+admitted-alike : (request : List ℕ) (g : Gateway) (b : Book) → Alike g b → Admitted (b .head) (setIsFull b) request
     → Alike (gatewayAdmitted request g) (admitted request b)
 admitted-alike request g b r a =
     let new = asked (b .head .lastTicket + 1) (fieldsOf request) in
@@ -161,7 +158,7 @@ unfolding gatewayDoes bookDoes
 alike-kept g b (admit request info) r =
     rw (admit-told request info g b r)
     (unless-alike (admitNumber request info b)
-    (λ e. admitted-alike request g b r (admit-accepted (b .head) (hasAll b) request (length info) e)) r)
+    (λ e. admitted-alike request g b r (admit-accepted (b .head) (setIsFull b) request (length info) e)) r)
 alike-kept g b (retire id) r =
     rw (retire-told id g b r)
     (unless-alike (retireNumber id b)

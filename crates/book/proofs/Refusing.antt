@@ -1,18 +1,17 @@
 -- A refused call changes neither the gateway nor the buffer that it lends.
 -- Assumes nothing.
 use mathlib.Core.Path.{_≡_, refl, sym, ap, _∙_}
-use mathlib.Core.List.{List}
 use Prim.Native.Nat.{ℕ}
-use lib.ListN.{getD, set}
+use lib.ListN.{getD}
 use lib.Seq.{set-getD}
 use Rattle.wire.specs.Search.{firstPlace}
 use Rattle.wire.proofs.Numbers.{unless-refused}
 use Rattle.exchange.specs.declared.Exchange.{Exchange}
 use Rattle.exchange.specs.Exchange.{free, hasTicket, exchangeOf}
-use Rattle.exchange.specs.Steps.{Step, openResult, respond, abandon, refusal, after, buffer}
+use Rattle.exchange.specs.Steps.{Step, openResult, respond, abandon, refusal, buffer}
 use Rattle.gateway.specs.declared.Gateway.{Gateway}
 use Rattle.gateway.specs.Gateway.{withExchange, stepped, nextTicket}
-use Rattle.gateway.specs.Calls.{Call, admit, retire, onTicket, reporting, number, gatewayDoes, admitNumber, retireNumber}
+use Rattle.gateway.specs.Calls.{admit, retire, onTicket, reporting, number, gatewayDoes, admitNumber, retireNumber}
 use Rattle.book.specs.OneCall.{RefusalChangesNothing, lent}
 use Rattle.book.proofs.Numbers.{admit-number, retire-number, step-number}
 

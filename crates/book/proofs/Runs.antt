@@ -6,7 +6,7 @@ use borrow.Author.Tests.{eqb-true}
 use Rattle.wire.proofs.Booleans.{either}
 use Rattle.gateway.specs.Calls.{Call, Done}
 use Rattle.book.specs.Book.{Book, bookDoes}
-use Rattle.book.specs.History.{Event, event, trace, final, those}
+use Rattle.book.specs.History.{Event, event, trace, final, filtered}
 use Rattle.book.specs.Demand3.{isKept, struck, calls}
 use Rattle.book.proofs.Accepted.{numberOf, given, does-given, kept-number, refused-stays}
 
@@ -46,7 +46,7 @@ run-final b c (e ∷ es) r =
 
 -- struck out calls leave the book as it is, so that the others happen without them
 pub struck-run : (b : Book) (made : List Call) → Run b (struck (trace bookDoes b made)) (final bookDoes b made)
-unfolding trace final those
+unfolding trace final filtered
 struck-run b [] = refl
 struck-run b (call ∷ made) =
     either

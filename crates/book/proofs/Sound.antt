@@ -16,7 +16,7 @@ use Rattle.exchange.specs.Steps.{Step, next}
 use Rattle.keys.specs.Keys.{Key, keyPlace, keyAt, freshKey, retired}
 use Rattle.gateway.specs.Head.{capHolds, mostUses, refusedHead}
 use Rattle.gateway.specs.Calls.{Call, admit, retire, onTicket, reporting}
-use Rattle.book.specs.Book.{Book, hasAll, admitted, keyRetired, moved, admitNumber, retireNumber, ticketNumber, bookDoes}
+use Rattle.book.specs.Book.{Book, setIsFull, admitted, keyRetired, moved, admitNumber, retireNumber, ticketNumber, bookDoes}
 use Rattle.book.specs.Counts.{sumOfCounts}
 use Rattle.book.proofs.Passing.{passing, passing-append}
 use Rattle.book.proofs.Table.{holding, holding-one, holding-other, holding-replaced, found-has}
@@ -24,8 +24,7 @@ use Rattle.book.proofs.Accepting.{unless-kept, retire-accepted, Admitte
 use Rattle.exchange.proofs.Moves.{accepted-pending, next-ticket}
 use Rattle.keys.proofs.Parsed.{Distinct}
 use Rattle.keys.proofs.Views.{parsed-view, parsed-distinct}
-use Rattle.book.proofs.KeyCounts.{ids, sum-bound, fresh-ids, fresh-count, fresh-sum}
-use Rattle.book.proofs.KeyCounts.{used-within, used-sum, used-ids, number-kept, retired-sum, retired-ids}
+use Rattle.book.proofs.KeyCounts.{ids, sum-bound, fresh-ids, fresh-count, fresh-sum, used-within, used-sum, used-ids, number-kept, retired-sum, retired-ids}
 
 -- what holds of every book that calls reach
 pub record Sound (b : Book) : Type 0 where
@@ -43,7 +42,7 @@ pub ticket-bound : (b : Book) → Sound b → b .head .lastTicket ≤ 1600000000
 ticket-bound b s = omega (arith, sum-bound (b .head .keys) (λ place. omega (arith, s .withinCap place)))
 
 -- after an accepted admit
-pub admitted-sound : (request : List ℕ) (b : Book) → Sound b → Admitted (b .head) (hasAll b) request → Sound (admitted request b)
+pub admitted-sound : (request : List ℕ) (b : Book) → Sound b → Admitted (b .head) (setIsFull b) request → Sound (admitted request b)
 admitted-sound request b s a =
     let place = keyPlace (keyIdOf request) (b .head .keys) in
     let new = asked (b .head .lastTicket + 1) (fieldsOf request) in
@@ -100,7 +99,7 @@ pub sound-kept : (b : Book) (call : Call) → Sound b → Sound (bookDoes b call
 unfolding bookDoes
 sound-kept b (admit request info) s =
     unless-kept Sound (admitNumber request info b)
-    (λ e. admitted-sound request b s (admit-accepted (b .head) (hasAll b) request (length info) e)) s
+    (λ e. admitted-sound request b s (admit-accepted (b .head) (setIsFull b) request (length info) e)) s
 sound-kept b (retire id) s =
     unless-kept Sound (retireNumber id b)
     (λ e. retired-sound id b s (retire-accepted (b .head .keys) (keyPlace id (b .head .keys)) e)) s

@@ -3,19 +3,18 @@
 use Prim.Native.Nat.{ℕ, zero, suc, _≤_, _<_}
 use mathlib.Core.Bool.{true, false, not}
 use mathlib.Core.Path.{_≡_, refl, ap, sym, _∙_}
-use mathlib.Core.List.{List, [], _∷_, _++_}
-use mathlib.Core.List.{List·Permᴰ, List·Permᴰ·nil, List·Permᴰ·cons, List·Permᴰ·swap, List·Permᴰ·trans, Permᴰ·append-left}
+use mathlib.Core.List.{List, [], _∷_, _++_, List·Permᴰ, List·Permᴰ·nil, List·Permᴰ·cons, List·Permᴰ·swap, List·Permᴰ·trans, Permᴰ·append-left}
 use native.Mathlib.Nat.{le-refl, not-suc-le-zero, le-of-suc-le-suc}
 use native.Mathlib.Omega.{arith}
 use borrow.Author.Tests.{lt-leb, eqb-true, ne-eqb}
-use lib.Dec.{eqb, leb, leb·suc-suc, leb·suc-zero}
+use lib.Dec.{eqb, leb, leb·suc-suc}
 use lib.ListN.{length, getD, set}
 use Rattle.wire.specs.Tests.{pick}
 use Rattle.wire.specs.Search.{firstPlace, anyPasses}
 use Rattle.wire.proofs.Booleans.{either, true-or-false, and-right, and-false}
 use Rattle.exchange.specs.declared.Exchange.{Exchange}
 use Rattle.exchange.specs.Exchange.{free, isFree, hasTicket, exchangeOf}
-use Rattle.gateway.specs.Gateway.{pendingIn, freePlace, isFull}
+use Rattle.gateway.specs.Gateway.{pendingIn, isFull}
 use Rattle.book.specs.Book.{left, replaced}
 use Rattle.book.proofs.Passing.{passing, passing-append, passing-permuted, fronts-swapped, first-to-the-end}
 

@@ -27,8 +27,8 @@ abbrev pub freshBook : List ℕ → ℕ → Book
 freshBook list cap = record { head = freshHead (parse list) cap; pending = [] }
 
 -- 9 means 128 in the set
-abbrev pub hasAll : Book → Bool
-hasAll b = leb tableSize (length (b .pending))
+abbrev pub setIsFull : Book → Bool
+setIsFull b = leb tableSize (length (b .pending))
 
 -- the keys with the one that has the id changed
 abbrev pub withKey : (Key → Key) → ℕ → Head → List Key
@@ -67,7 +67,7 @@ moved ticket step b =
 
 -- the refusals in their order
 abbrev pub admitNumber : List ℕ → List ℕ → Book → ℕ
-admitNumber request info b = admitRefusal (b .head) (hasAll b) request (length info)
+admitNumber request info b = admitRefusal (b .head) (setIsFull b) request (length info)
 
 abbrev pub retireNumber : ℕ → Book → ℕ
 retireNumber id b = retireRefusal (b .head .keys) (keyPlace id (b .head .keys))

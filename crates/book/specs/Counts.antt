@@ -9,11 +9,11 @@ use Rattle.keys.specs.Stored.{oneMore}
 use Rattle.gateway.specs.Head.{Head, mostUses}
 use Rattle.gateway.specs.Gateway.{headOf, nextTicket}
 use Rattle.gateway.specs.Calls.{Call}
-use Rattle.book.specs.History.{Event, those, ticketsOf, keyIdsOf, gatewayTrace, gatewayAfter}
+use Rattle.book.specs.History.{Event, filtered, ticketsOf, keyIdsOf, gatewayTrace, gatewayAfter}
 
 -- the number of accepted admissions that name the key
 abbrev pub admissionsOfKey : ℕ → List Event → ℕ
-admissionsOfKey id events = length (those (λ e. among (keyIdsOf (e .answer)) id) events)
+admissionsOfKey id events = length (filtered (λ e. among (keyIdsOf (e .answer)) id) events)
 
 -- the tickets that admissions were given, in their order
 unfoldable pub ticketsGiven : List Event → List ℕ

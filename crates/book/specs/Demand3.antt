@@ -8,7 +8,7 @@ use Rattle.wire.specs.Search.{among}
 use Rattle.gateway.specs.Gateway.{headOf, pendingIn}
 use Rattle.gateway.specs.Calls.{Call, admit, retire, onTicket, reporting, Answer}
 use Rattle.book.specs.Book.{Book, freshBook, bookDoes}
-use Rattle.book.specs.History.{Event, trace, final, those, gatewayTrace, gatewayAfter, isAccepted, ticketsOf}
+use Rattle.book.specs.History.{Event, trace, final, filtered, gatewayTrace, gatewayAfter, isAccepted, ticketsOf}
 
 abbrev pub isReport : Call → Bool
 isReport (admit request info) = false
@@ -21,7 +21,7 @@ abbrev pub isKept : Event → Bool
 isKept e = isAccepted e and not (isReport (e .call))
 
 abbrev pub struck : List Event → List Event
-struck events = those isKept events
+struck events = filtered isKept events
 
 -- admissions and key retirements, which keep their order
 abbrev pub keepsOrder : Call → Bool
@@ -39,7 +39,7 @@ isOn tickets reporting = false
 
 -- of the events, the calls on the ticket that this answer gave, if it is that of an accepted admit
 abbrev pub ownCalls : Answer → List Event → List Event
-ownCalls answer events = those (λ e. isOn (ticketsOf answer) (e .call)) events
+ownCalls answer events = filtered (λ e. isOn (ticketsOf answer) (e .call)) events
 
 -- each of these, with its own calls behind it
 unfoldable pub withOwnCalls : List Event → List Event → List Event
@@ -49,7 +49,7 @@ withOwnCalls events (e ∷ es) = (e ∷ ownCalls (e .answer) events) ++ withOwnC
 -- "Keep admissions and key retirements in order, and move each other call up behind its own exchange's admission, that
 -- exchange's calls in their order."
 abbrev pub movedUp : List Event → List Event
-movedUp events = withOwnCalls events (those (λ e. keepsOrder (e .call)) events)
+movedUp events = withOwnCalls events (filtered (λ e. keepsOrder (e .call)) events)
 
 -- the moved list of a list of calls
 abbrev pub movedList : List ℕ → ℕ → List Call → List Event

@@ -3,7 +3,7 @@ use Prim.Native.Nat.{ℕ}
 use mathlib.Core.Bool.{true}
 use mathlib.Core.Path.{_≡_}
 use mathlib.Core.List.{List, [], _∷_, _++_, map}
-use lib.ListN.{length, replicate}
+use lib.ListN.{replicate}
 use Rattle.wire.specs.Texts.{headBytes}
 use Rattle.keylist.specs.Edges.{edgeList, hex, ListEdges}
 use Rattle.exchange.specs.Steps.{openResult, respond}
@@ -11,7 +11,7 @@ use Rattle.keys.specs.Keys.{Key}
 use Rattle.gateway.specs.declared.AdmitAnswer.{AdmitAnswer}
 use Rattle.gateway.specs.Gateway.{headOf, pendingIn}
 use Rattle.gateway.specs.Calls.{Call, admit, onTicket, number, toAdmit}
-use Rattle.book.specs.History.{Event, gatewayTrace, gatewayAfter, ticketsOf}
+use Rattle.book.specs.History.{Event, gatewayTrace, gatewayAfter}
 use Rattle.book.specs.Counts.{ticketsGiven}
 
 -- a request that names key 7, and so many bytes of enc and ciphertext behind its head

@@ -30,9 +30,9 @@ module _ {State : Type 0} (does : State → Call → Done State) where
   final s (call ∷ calls) = final (does s call .state) calls
 
 -- the events that pass a test, in their order
-unfoldable pub those : (Event → Bool) → List Event → List Event
-those test [] = []
-those test (e ∷ es) = pick (test e) (e ∷ those test es) (those test es)
+unfoldable pub filtered : (Event → Bool) → List Event → List Event
+filtered test [] = []
+filtered test (e ∷ es) = pick (test e) (e ∷ filtered test es) (filtered test es)
 
 -- from the gateway that setup handed back, after a refused setup too
 abbrev pub gatewayTrace : List ℕ → ℕ → List Call → List Event

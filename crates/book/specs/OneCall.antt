@@ -3,17 +3,17 @@
 use Prim.Native.Nat.{ℕ, _+_, _≤_, _<_}
 use mathlib.Core.Path.{_≡_}
 use mathlib.Core.Logic.{_↔_}
-use mathlib.Core.Bool.{true, false}
+use mathlib.Core.Bool.{Bool, true, false}
 use mathlib.Core.List.{List, []}
 use lib.ListN.{length, getD, set}
 use Rattle.wire.specs.Texts.{headLength, infoLength}
 use Rattle.algorithms.specs.Sizes.{knownKem, knownKdf, knownAead, encLength, tagLength}
-use Rattle.keylist.specs.declared.Pair.{Pair}
 use Rattle.exchange.specs.declared.Exchange.{Exchange}
 use Rattle.exchange.specs.Request.{longestRequest, keyIdOf, kemOf, kdfOf, aeadOf}
-use Rattle.exchange.specs.Exchange.{free, isFree, isOpened, exchangeOf}
+use Rattle.exchange.specs.Exchange.{free, isFree, isAsked, isOpened, exchangeOf}
 use Rattle.exchange.specs.Steps.{Step, openResult, respond, abandon}
-use Rattle.keys.specs.Keys.{Key, keyAt}
+use Rattle.keys.specs.Keys.{keyAt}
+use Rattle.keys.specs.Stored.{noPair}
 use Rattle.gateway.specs.declared.Gateway.{Gateway}
 use Rattle.gateway.specs.Gateway.{headOf, freePlace, isFull}
 use Rattle.gateway.specs.Calls.{Call, admit, retire, onTicket, reporting, number, unprotectedStatus, gatewayDoes}
@@ -45,9 +45,6 @@ pub record WellFormed (request : List ℕ) : Type 0 where
 abbrev pub Holds : {A : Type 0} → A → List A → A → Type 0
 Holds blank xs x = (place : ℕ) × (place < length xs) × (getD xs place blank ≡ x)
 
-abbrev pub noPair : Pair
-noPair = record { kdf = 0; aead = 0 }
-
 pub record Admissible (g : Gateway) (request info : List ℕ) : Type 0 where
   pub wellFormed : WellFormed request
   -- the key that it names
@@ -70,13 +67,22 @@ AdmissionExactly =
     → (number (gatewayDoes (gatewayAfter list cap made) (admit request info) .answer) ≡ 0)
     ↔ Admissible (gatewayAfter list cap made) request info
 
--- "Errors found before or at opening go out unprotected, later ones only sealed": an unprotected answer comes from a refused admit
--- and from a failed opening, which had not been opened, and from nothing else
+-- the calls whose answer may go out unprotected: admit, and a call on an exchange that is not opened yet
+abbrev pub isBeforeOpening : Gateway → Call → Bool
+isBeforeOpening g (admit request info) = true
+isBeforeOpening g (retire id) = false
+isBeforeOpening g (onTicket ticket step) = isAsked (exchangeOf ticket (g .table))
+isBeforeOpening g reporting = false
+
+-- "Errors found before or at opening go out unprotected, later ones only sealed"
 pub record Unprotected : Type 0 where
   pub refusedAdmit : (g : Gateway) (request info : List ℕ) → (number (gatewayDoes g (admit request info) .answer) ≡ 0 → ⊥)
       → 400 ≤ unprotectedStatus (gatewayDoes g (admit request info) .answer)
   pub failedOpening : (g : Gateway) (ticket n : ℕ) → number (gatewayDoes g (onTicket ticket (openResult false n)) .answer) ≡ 0
       → unprotectedStatus (gatewayDoes g (onTicket ticket (openResult false n)) .answer) ≡ 422
+  pub nothingElse : (g : Gateway) (call : Call) → isBeforeOpening g call ≡ false
+      → unprotectedStatus (gatewayDoes g call .answer) ≡ 0
+  -- over every history: no call on an opened exchange
   pub afterOpening : (list : List ℕ) (cap : ℕ) (made : List Call) (ticket : ℕ) (step : Step)
       → isOpened (exchangeOf ticket (gatewayAfter list cap made .table)) ≡ true
       → unprotectedStatus (gatewayDoes (gatewayAfter list cap made) (onTicket ticket step) .answer) ≡ 0

@@ -1,7 +1,6 @@
 -- What admit and retire give, by the numbers and values that their code computes on the way.
 -- Assumes nothing.
 use mathlib.Core.Path.{_≡_, refl, sym, ap, _∙_}
-use mathlib.Core.Bool.{Bool}
 use mathlib.Core.List.{List}
 use Prim.Native.Nat.{ℕ, zero, suc, _≤_, _<_}
 use native.Mathlib.Omega.{arith}
@@ -31,7 +30,7 @@ use Rattle.gateway.specs.declared.admission.Rejection.{Rejection}
 use Rattle.gateway.specs.declared.AdmitAnswer.{AdmitAnswer}
 use Rattle.gateway.specs.declared.RetireAnswer.{RetireAnswer}
 use Rattle.gateway.specs.Head.{_orElse_, admitRefusal, rejection, admission, admitAnswer, retireAnswer}
-use Rattle.gateway.specs.Gateway.{tableSize, headOf, isFull, freePlace, nextTicket, admitted, retiredGateway}
+use Rattle.gateway.specs.Gateway.{tableSize, isFull, freePlace, nextTicket, admitted, retiredGateway}
 use Rattle.gateway.proofs.Deciding.{none-of-both}
 use Rattle.gateway.specs.Calls.{admit, retire, toAdmit, toRetire, gatewayDoes, admitNumber, retireNumber}
 

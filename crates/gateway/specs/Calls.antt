@@ -1,7 +1,6 @@
 -- The six calls as data, their answers, and what the gateway does with each: the contracts of the entries cite `gatewayDoes`, and
 -- so do the theorems over lists of calls.
 use Prim.Native.Nat.{ℕ}
-use mathlib.Core.Bool.{Bool}
 use mathlib.Core.List.{List, []}
 use lib.ListN.{length}
 use Rattle.wire.specs.Refusals.{unlessRefused, written}

@@ -1,6 +1,6 @@
 -- What gateway and book share: cap, last ticket and keys, and 01's rules for the calls that look at them: setup, admit, retire, report.
-use Prim.Native.Nat.{ℕ, zero, suc, _+_}
-use mathlib.Core.Bool.{Bool, not}
+use Prim.Native.Nat.{ℕ, zero, suc}
+use mathlib.Core.Bool.{Bool}
 use mathlib.Core.List.{List, [], map}
 use lib.Dec.{eqb, leb, ltb}
 use lib.ListN.{length}

@@ -1,6 +1,6 @@
 -- How the gateway stores its keys: arrays of a fixed length whose first elements count, and what they stand for.
 use Prim.Native.Nat.{ℕ, _+_, _-_, _^_, min}
-use mathlib.Core.Bool.{Bool, true, false, not}
+use mathlib.Core.Bool.{false, not}
 use mathlib.Core.List.{List, [], _++_, map}
 use lib.Dec.{eqb}
 use lib.ListN.{length, getD, take, set, replicate}

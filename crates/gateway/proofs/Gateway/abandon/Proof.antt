@@ -1,9 +1,7 @@
-use mathlib.Core.Path.{_≡_, refl, sym, ap, _∙_}
-use Prim.Native.Nat.{ℕ, suc, _+_, _*_, _-_, _≤_, _<_}
-use native.Mathlib.Omega.{arith}
-use borrow.Author.Tests.{eq-eqb, ne-eqb, lt-ltb, le-ltb, le-leb, lt-leb}
-use mathlib.Core.Logic.{⊎-elim}
-use lib.ListN.{length, getD, take, drop, set}
+-- `gateway::Gateway::abandon` meets its contract: the exchange that was found, moved, and put back in its place.
+-- Assumes nothing.
+use mathlib.Core.Path.{_≡_, ap, _∙_}
+use Prim.Native.Nat.{_-_}
 use borrow.Author.Needs.{needs}
 use Rattle.exchange.specs.declared.Exchange.{Exchange}
 use Rattle.exchange.specs.declared.AbandonAnswer.{AbandonAnswer}
@@ -13,30 +11,19 @@ use Rattle.gateway.specs.Calls.{toStep, gatewayDoes}
 use Rattle.gateway.proofs.Places.{stepped-by}
 use Rattle.gateway.proofs.Gateway.abandon.Statement.{statement}
 use Rattle.gateway.proofs.Gateway.abandon.Tie as tie
-use Rattle.gateway.proofs.Gateway.abandon.Reads as reads
-use Rattle.gateway.proofs.Gateway.abandon.Lts as lts
-use Rattle.exchange.proofs.Exchange.abandon.Reads as abandon-reads
-use Rattle.gateway.proofs.table.at.Reads as at-reads
-use Rattle.gateway.proofs.table.find.Reads as find-reads
-use Rattle.gateway.proofs.with_exchange.Reads as with-exchange-reads
 
--- src/lib.rt:157:13
 find-requires : tie.Need-find-requires
 find-requires c κs = search needs
 
--- src/lib.rt:158:13
 at-requires : tie.Need-at-requires
 at-requires c κs = search needs
 
--- src/lib.rt:159:13
 abandon-requires : tie.Need-abandon-requires
 abandon-requires c κs = search needs
 
--- src/lib.rt:163:22
 with-exchange-requires : tie.Need-with-exchange-requires
 with-exchange-requires c κs = search needs
 
--- src/lib.rt:152:5
 returns : tie.Need-returns
 unfolding gatewayDoes answer
 returns c =

@@ -1,9 +1,8 @@
-use mathlib.Core.Path.{_≡_, refl, sym, ap, _∙_}
-use Prim.Native.Nat.{ℕ, suc, _+_, _*_, _-_, _≤_, _<_}
-use native.Mathlib.Omega.{arith}
-use borrow.Author.Tests.{eq-eqb, ne-eqb, lt-ltb, le-ltb, le-leb, lt-leb}
-use mathlib.Core.Logic.{⊎-elim}
-use lib.ListN.{length, getD, take, drop, set}
+-- `gateway::Gateway::respond` meets its contract: the exchange that was found, moved, and put back in its place.
+-- Assumes nothing.
+use mathlib.Core.Path.{_≡_, ap, _∙_}
+use Prim.Native.Nat.{_-_}
+use lib.ListN.{length}
 use borrow.Author.Needs.{needs}
 use Rattle.exchange.specs.declared.Exchange.{Exchange}
 use Rattle.exchange.specs.declared.RespondAnswer.{RespondAnswer}
@@ -13,34 +12,22 @@ use Rattle.gateway.specs.Calls.{toStep, gatewayDoes}
 use Rattle.gateway.proofs.Places.{stepped-by}
 use Rattle.gateway.proofs.Gateway.respond.Statement.{statement}
 use Rattle.gateway.proofs.Gateway.respond.Tie as tie
-use Rattle.gateway.proofs.Gateway.respond.Reads as reads
-use Rattle.gateway.proofs.Gateway.respond.Lts as lts
-use Rattle.exchange.proofs.Exchange.respond.Reads as respond-reads
-use Rattle.gateway.proofs.table.at.Reads as at-reads
-use Rattle.gateway.proofs.table.find.Reads as find-reads
-use Rattle.gateway.proofs.with_exchange.Reads as with-exchange-reads
 
--- src/lib.rt:140:13
 find-requires : tie.Need-find-requires
 find-requires c κs = search needs
 
--- src/lib.rt:141:13
 at-requires : tie.Need-at-requires
 at-requires c κs = search needs
 
--- src/lib.rt:142:13
 respond-requires : tie.Need-respond-requires
 respond-requires c κs = search needs
 
--- src/lib.rt:146:22
 with-exchange-requires : tie.Need-with-exchange-requires
 with-exchange-requires c κs = search needs
 
--- src/lib.rt:124:5
 same-length : tie.Need-same-length
 same-length c = search needs
 
--- src/lib.rt:124:5
 returns : tie.Need-returns
 unfolding gatewayDoes answer
 returns c =

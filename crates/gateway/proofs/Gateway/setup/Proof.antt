@@ -1,9 +1,8 @@
-use mathlib.Core.Path.{_≡_, refl, sym, ap, _∙_}
-use Prim.Native.Nat.{ℕ, suc, _+_, _*_, _-_, _≤_, _<_}
-use native.Mathlib.Omega.{arith}
-use borrow.Author.Tests.{eq-eqb, ne-eqb, lt-ltb, le-ltb, le-leb, lt-leb}
-use mathlib.Core.Logic.{⊎-elim}
-use lib.ListN.{length, getD, take, drop, set}
+-- `gateway::Gateway::setup` meets its contract: 15 by the list's check, 17 by the cap, else the list's keys.
+-- Assumes nothing.
+use mathlib.Core.Path.{_≡_, sym, ap, _∙_}
+use Prim.Native.Nat.{_-_}
+use borrow.Author.Tests.{le-leb, lt-leb}
 use borrow.Author.Needs.{needs}
 use mathlib.Core.Bool.{true}
 use Rattle.keylist.specs.Layout.{parse}
@@ -14,30 +13,19 @@ use Rattle.gateway.specs.Gateway.{emptyGateway}
 use Rattle.gateway.proofs.Fresh.{cap-refused, ready, list-refused}
 use Rattle.gateway.proofs.Gateway.setup.Statement.{statement}
 use Rattle.gateway.proofs.Gateway.setup.Tie as tie
-use Rattle.gateway.proofs.Gateway.setup.Reads as reads
-use Rattle.gateway.proofs.Gateway.setup.Lts as lts
-use Rattle.gateway.proofs.empty.Reads as empty-reads
-use Rattle.gateway.proofs.refused_setup.Reads as refused-setup-reads
-use Rattle.keys.proofs.Keys.read.Reads as read-reads
-use Rattle.wire.proofs.refusal.Refusal.of.Reads as of-reads
 
--- src/lib.rt:111:13
 read-requires : tie.Need-read-requires
 read-requires c κs = search needs
 
--- src/lib.rt:114:27
 enum-known-checked : tie.Need-enum-known-checked
 enum-known-checked c = search needs
 
--- src/lib.rt:116:42
 of-requires : tie.Need-of-requires
 of-requires c κs = search needs
 
--- src/lib.rt:116:21
 refused-setup-requires : tie.Need-refused-setup-requires
 refused-setup-requires c κs = search needs
 
--- src/lib.rt:116:21
 returns : tie.Need-returns
 returns c =
     let a = c .before .before .before .before .before .before .before .before .args in
@@ -45,15 +33,12 @@ returns c =
     let given = cap-refused (parse (a .list .now)) (a .cap) _ was (rw (lt-leb 1 (a .cap) (c .before .before .if1 .taken))) in
     (c .refused-setup .ensures .0 ∙ given .0, c .refused-setup .ensures .1 ∙ ap SetupAnswer.Refused (c .before .of .ensures) ∙ given .1)
 
--- src/lib.rt:119:42
 of-requires-2 : tie.Need-of-requires-2
 of-requires-2 c κs = search needs
 
--- src/lib.rt:119:21
 refused-setup-requires-2 : tie.Need-refused-setup-requires-2
 refused-setup-requires-2 c κs = search needs
 
--- src/lib.rt:119:21
 returns-2 : tie.Need-returns-2
 returns-2 c =
     let a = c .before .before .before .before .before .before .before .before .before .args in
@@ -61,23 +46,18 @@ returns-2 c =
     let given = cap-refused (parse (a .list .now)) (a .cap) _ was (rw (le-leb 1 (a .cap) (c .before .before .before .if1 .left), lt-leb (a .cap) mostUses (c .before .before .if2 .taken))) in
     (c .refused-setup2 .ensures .0 ∙ given .0, c .refused-setup2 .ensures .1 ∙ ap SetupAnswer.Refused (c .before .of2 .ensures) ∙ given .1)
 
--- src/lib.rt:123:36
 cast-empty : tie.Need-cast-empty
 cast-empty c = search needs
 
--- src/lib.rt:123:30
 empty-requires : tie.Need-empty-requires
 empty-requires c κs = search needs
 
--- src/lib.rt:127:30
 enum-known-checked-2 : tie.Need-enum-known-checked-2
 enum-known-checked-2 c = search needs
 
--- src/lib.rt:127:42
 refused-setup-requires-3 : tie.Need-refused-setup-requires-3
 refused-setup-requires-3 c κs = search needs
 
--- src/lib.rt:107:5
 returns-3 : tie.Need-returns-3
 returns-3 c =
     let a = c .before .before .before .before .before .before .before .before .before .args in
@@ -86,7 +66,6 @@ returns-3 c =
     let given = ready (parse (a .list .now)) (a .cap) _ was holds in
     (c .empty .ensures ∙ ap (emptyGateway (a .cap)) (ap (λ (r : KeysRead). r .keys) (c .before .before .before .before .before .before .before .read .ensures)) ∙ given .0, given .1)
 
--- src/lib.rt:107:5
 returns-4 : tie.Need-returns-4
 returns-4 c =
     let a = c .before .before .before .before .before .before .args in

@@ -1,10 +1,10 @@
-use mathlib.Core.Path.{_≡_, refl, sym, ap, _∙_}
-use Prim.Native.Nat.{ℕ, suc, _+_, _*_, _-_, _≤_, _<_}
+-- `gateway::table::find` meets its contract. The loop's invariant: no place before has the ticket.
+-- Assumes nothing.
+use mathlib.Core.Path.{_≡_, sym, _∙_}
+use Prim.Native.Nat.{ℕ, _-_, _≤_, _<_}
 use native.Mathlib.Omega.{arith}
 use borrow.Author.Needs.{needs}
-use borrow.Author.Tests.{eq-eqb, ne-eqb, lt-ltb, le-ltb, le-leb, lt-leb}
-use mathlib.Core.Logic.{⊎-elim}
-use lib.ListN.{length, getD, take, drop, set}
+use lib.ListN.{length, getD}
 use mathlib.Core.Bool.{false}
 use Rattle.exchange.specs.Exchange.{free, hasTicket}
 use Rattle.gateway.specs.Gateway.{tableSize}
@@ -13,8 +13,6 @@ use borrow.Author.Count.{below-none, below-more}
 use Rattle.gateway.proofs.Places.{no-ticket, other-ticket, own-ticket}
 use Rattle.gateway.proofs.table.find.Statement.{statement}
 use Rattle.gateway.proofs.table.find.Tie as tie
-use Rattle.gateway.proofs.table.find.Reads as reads
-use Rattle.gateway.proofs.table.find.Lts as lts
 
 abbrev Inv-loop : tie.InvT-loop
 Inv-loop ticket table at₀ at =
@@ -23,26 +21,21 @@ Inv-loop ticket table at₀ at =
 abbrev μ-loop : tie.MeasureT-loop
 μ-loop ticket table at₀ at = tableSize - at
 
--- src/table.rt:34:9
 returns : tie.Need-returns Inv-loop μ-loop
 returns c =
     let a = c .before .before .args in
     let size : length (a .t1) ≡ tableSize = search needs in
     (sym (first-none free (hasTicket (a .ticket .0)) (a .t1) (λ j h. no-ticket (a .ticket .0) (getD (a .t1) j free) (c .if1 .taken)) ∙ size), size)
 
--- src/table.rt:37:5
 loop-holds : tie.Need-loop-holds Inv-loop μ-loop
 loop-holds c = (omega arith, (c .if1 .left, below-none (λ (j : ℕ). hasTicket (c .before .before .args .ticket .0) (getD (c .before .before .args .t1) j free) ≡ false)))
 
--- src/table.rt:38:12
 mul-if2 : tie.Need-mul-if2 Inv-loop μ-loop
 mul-if2 c = search needs
 
--- src/table.rt:38:12
 element-copy-out-if2 : tie.Need-element-copy-out-if2 Inv-loop μ-loop
 element-copy-out-if2 c = search needs
 
--- src/table.rt:39:13
 returns-2 : tie.Need-returns-2 Inv-loop μ-loop
 returns-2 c =
     let l = c .before .before .before .loop in
@@ -50,22 +43,18 @@ returns-2 c =
     let size : length (a .t1) ≡ tableSize = search needs in
     (sym (first-at free (hasTicket (a .ticket .0)) (a .t1) (l .at) (omega (arith, size)) (l .inv .1 .1) (own-ticket (a .ticket .0) (getD (a .t1) (l .at) free) (l .inv .1 .0) (c .if2 .taken))), size)
 
--- src/table.rt:41:9
 add-at : tie.Need-add-at Inv-loop μ-loop
 add-at c = search needs
 
--- src/table.rt:37:5
 loop-less : tie.Need-loop-less Inv-loop μ-loop
 loop-less c = search needs
 
--- src/table.rt:37:5
 loop-again : tie.Need-loop-again Inv-loop μ-loop
 loop-again c =
     let l = c .before .before .before .loop in
     let a = c .before .before .before .before .before .before .args in
     (omega arith, (l .inv .1 .0, below-more _ _ (l .inv .1 .1) (other-ticket (a .ticket .0) (getD (a .t1) (l .at) free) (c .if2 .left))))
 
--- src/table.rt:29:1
 returns-3 : tie.Need-returns-3 Inv-loop μ-loop
 returns-3 c =
     let l = c .before .loop in

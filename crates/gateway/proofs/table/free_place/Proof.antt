@@ -1,11 +1,11 @@
-use mathlib.Core.Path.{_≡_, refl, sym, ap, _∙_}
-use Prim.Native.Nat.{ℕ, suc, _+_, _*_, _-_, _≤_, _<_}
+-- `gateway::table::free_place` meets its contract. The loop's invariant: no place before is free.
+-- Assumes nothing.
+use mathlib.Core.Path.{_≡_, sym, _∙_}
+use Prim.Native.Nat.{ℕ, _-_, _≤_, _<_}
 use native.Mathlib.Omega.{arith}
 use borrow.Author.Needs.{needs}
-use borrow.Author.Tests.{eq-eqb, ne-eqb, lt-ltb, le-ltb, le-leb, lt-leb}
-use mathlib.Core.Logic.{⊎-elim}
-use lib.ListN.{length, getD, take, drop, set}
-use native.Mathlib.Nat.{not-suc-le-zero}
+use borrow.Author.Tests.{eq-eqb, ne-eqb}
+use lib.ListN.{length, getD}
 use mathlib.Core.Bool.{false}
 use Rattle.exchange.specs.Exchange.{free, isFree}
 use Rattle.gateway.specs.Gateway.{tableSize, freePlace}
@@ -13,8 +13,6 @@ use Rattle.wire.proofs.Matches.{first-at, first-none}
 use borrow.Author.Count.{below-none, below-more}
 use Rattle.gateway.proofs.table.free_place.Statement.{statement}
 use Rattle.gateway.proofs.table.free_place.Tie as tie
-use Rattle.gateway.proofs.table.free_place.Reads as reads
-use Rattle.gateway.proofs.table.free_place.Lts as lts
 
 abbrev Inv-loop : tie.InvT-loop
 Inv-loop table at₀ at = (at ≤ tableSize) × ((j : ℕ) → j < at → isFree (getD table j free) ≡ false)
@@ -22,19 +20,15 @@ Inv-loop table at₀ at = (at ≤ tableSize) × ((j : ℕ) → j < at → isFree
 abbrev μ-loop : tie.MeasureT-loop
 μ-loop table at₀ at = tableSize - at
 
--- src/table.rt:19:5
 loop-holds : tie.Need-loop-holds Inv-loop μ-loop
 loop-holds c = (omega arith, below-none (λ (j : ℕ). isFree (getD (c .args .t1) j free) ≡ false))
 
--- src/table.rt:20:12
 mul-if1 : tie.Need-mul-if1 Inv-loop μ-loop
 mul-if1 c = search needs
 
--- src/table.rt:20:12
 element-copy-out-if1 : tie.Need-element-copy-out-if1 Inv-loop μ-loop
 element-copy-out-if1 c = search needs
 
--- src/table.rt:21:13
 returns : tie.Need-returns Inv-loop μ-loop
 unfolding freePlace
 returns c =
@@ -43,22 +37,18 @@ returns c =
     let size : length table ≡ tableSize = search needs in
     (sym (first-at free isFree table (l .at) (omega (arith, size)) (l .inv .1) (eq-eqb _ _ (c .if1 .taken))), size)
 
--- src/table.rt:23:9
 add-at : tie.Need-add-at Inv-loop μ-loop
 add-at c = search needs
 
--- src/table.rt:19:5
 loop-less : tie.Need-loop-less Inv-loop μ-loop
 loop-less c = search needs
 
--- src/table.rt:19:5
 loop-again : tie.Need-loop-again Inv-loop μ-loop
 loop-again c =
     let l = c .before .before .loop in
     let table = c .before .before .before .args .t1 in
     (omega arith, below-more _ _ (l .inv .1) (ne-eqb _ _ (c .if1 .left)))
 
--- src/table.rt:14:1
 returns-2 : tie.Need-returns-2 Inv-loop μ-loop
 unfolding freePlace
 returns-2 c =
