@@ -14,10 +14,9 @@ use Rattle.wire.specs.declared.refusal.Refusal.{Refusal}
 use Rattle.wire.proofs.Matches.{any-first}
 use Rattle.wire.proofs.Booleans.{either, true-or-false, and-left, and-right, and-false}
 use Rattle.algorithms.specs.Sizes.{knownKem, knownPair}
-use Rattle.algorithms.proofs.Stated.{size-bounds}
 use Rattle.keylist.specs.declared.Pair.{Pair}
-use Rattle.keylist.specs.Layout.{Configuration, Outcome, good, bad, parse, nextStart, configurationAt, layoutHolds, pairsAt, keyIdAt, kemAt, keyStart, keyEnd, pairBytesAt, pairsStart}
-use Rattle.keylist.proofs.LayoutLaws.{Holds, holds-by-pairs}
+use Rattle.keylist.specs.Layout.{Configuration, Outcome, good, bad, parse, nextStart, configurationAt, pairsAt, keyIdAt, kemAt, keyStart, keyEnd, pairBytesAt, pairsStart}
+use Rattle.keylist.proofs.LayoutLaws.{Holds}
 use Rattle.keylist.proofs.Walk.{GoodFrom, GoodNext, walk-start, walk-next, walk-end, key-length-at}
 use Rattle.client.specs.declared.choose.Choice.{Choice}
 use Rattle.client.specs.declared.choose.Chosen.{Chosen}
@@ -65,11 +64,6 @@ module _ (kems numbers bytes : List ℕ) (at : ℕ) where
   chosen-here h k e =
       let t = pair-there (anyPasses (usablePair numbers) (pairsHere bytes at)) (firstUsable numbers (pairsHere bytes at)) e in
       rw (k, t .0, t .1, t .2, key-length-at bytes at h)
-
--- the rules that hold, as the test of them
-pub good-layout : (bytes : List ℕ) (at : ℕ) → Holds bytes at → layoutHolds bytes at ≡ true
-good-layout bytes at h =
-    holds-by-pairs bytes at (h .whole) (size-bounds .keyIsThere (kemAt bytes at) (h .kem)) (h .sizes) ∙ h .pairs .0
 
 module _ (kems numbers bytes : List ℕ) (at : ℕ) {rest : List Configuration} (n : GoodNext bytes at rest) where
   -- the next configuration is chosen

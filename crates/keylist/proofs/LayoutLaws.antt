@@ -1,6 +1,6 @@
 -- When one configuration keeps the layout's rules, and when it does not: one law for each way that the code finds it.
 -- Assumes nothing.
-use mathlib.Core.Path.{_≡_}
+use mathlib.Core.Path.{_≡_, _∙_}
 use mathlib.Core.Bool.{Bool, true, false}
 use mathlib.Core.List.{List}
 use Prim.Native.Nat.{ℕ, _+_, _%_, _≤_, _<_}
@@ -92,3 +92,8 @@ holds bytes at e =
     (both (λ known. known)
     (both (eqb-true (lengthAt bytes at) (5 + publicKeyLength (kemAt bytes at) + pairBytesAt bytes at)) (pair-bytes (pairBytesAt bytes at)))) e in
     record { whole = whole; kem = kem; sizes = sizes; pairs = pairs }
+
+-- the rules that hold, as the test of them
+pub good-layout : (bytes : List ℕ) (at : ℕ) → Holds bytes at → layoutHolds bytes at ≡ true
+good-layout bytes at h =
+    holds-by-pairs bytes at (h .whole) (size-bounds .keyIsThere (kemAt bytes at) (h .kem)) (h .sizes) ∙ h .pairs .0

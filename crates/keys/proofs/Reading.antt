@@ -10,8 +10,7 @@ use lib.Seq.{append-snoc}
 use Rattle.wire.specs.Bytes.{wordAt}
 use Rattle.keylist.specs.declared.Pair.{Pair}
 use Rattle.keylist.specs.Layout.{Configuration, good, parse, configurationAt, layoutHolds, keyIdAt, kemAt, pairBytesAt, pairsStart, nextStart, pairsAt, mostConfigurations}
-use Rattle.algorithms.proofs.Stated.{size-bounds}
-use Rattle.keylist.proofs.LayoutLaws.{Holds, holds-by-pairs}
+use Rattle.keylist.proofs.LayoutLaws.{good-layout}
 use Rattle.keylist.proofs.Walk.{GoodFrom, walk-start, walk-next, walk-end}
 use Rattle.keys.specs.declared.KeyState.{KeyState}
 use Rattle.keys.specs.declared.Keys.{Keys}
@@ -37,11 +36,6 @@ module _ (bytes : List ℕ) where
       let one : suc count + 1 ≡ suc (count + 1) = omega arith in
       let on : from + suc count * 4 ≡ from + 4 + count * 4 = omega arith in
       rw (one, on) (ap (λ (ps : List Pair). pairAt bytes from ∷ ps) (pairs-more count (from + 4)))
-
--- the rules that hold, as the test of them
-good-layout : (bytes : List ℕ) (at : ℕ) → Holds bytes at → layoutHolds bytes at ≡ true
-good-layout bytes at h =
-    holds-by-pairs bytes at (h .whole) (size-bounds .keyIsThere (kemAt bytes at) (h .kem)) (h .sizes) ∙ h .pairs .0
 
 -- the fields that were read make the stored key of the configuration
 pub stored-here : (bytes : List ℕ) (at : ℕ) {id kem count : ℕ} {pairs : List Pair}

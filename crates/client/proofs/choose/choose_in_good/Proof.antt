@@ -12,7 +12,8 @@ use Rattle.keylist.specs.Layout.{parse, nextStart}
 use Rattle.client.specs.Choose.{chooseFrom, chooseFirst}
 use Rattle.keylist.specs.declared.Place.{Place}
 use Rattle.keylist.proofs.Keys.{place-inside}
-use Rattle.client.proofs.Choosing.{good-layout, chosen-first, chosen-later}
+use Rattle.keylist.proofs.LayoutLaws.{good-layout}
+use Rattle.client.proofs.Choosing.{chosen-first, chosen-later}
 use Rattle.client.proofs.choose.choose_in_good.Statement.{statement}
 use Rattle.client.proofs.choose.choose_in_good.Tie as tie
 

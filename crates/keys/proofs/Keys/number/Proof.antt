@@ -1,6 +1,5 @@
 -- `keys::Keys::number` meets its contract: as many keys as are counted, or as there is room for.
 -- Assumes nothing.
-use mathlib.Core.Path.{sym}
 use native.Mathlib.Omega.{arith}
 use borrow.Author.Needs.{needs}
 use Rattle.keys.proofs.Stored.{full, length-keys}
