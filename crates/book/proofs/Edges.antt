@@ -15,9 +15,11 @@ use Rattle.keys.specs.Stored.{keysOf, storedKeys}
 use Rattle.gateway.specs.Head.{admitRefusal}
 use Rattle.gateway.specs.Gateway.{freePlace, pendingIn}
 use Rattle.gateway.specs.Calls.{gatewayDoes, number}
-use Rattle.book.specs.History.{trace, final, admissionsOf}
+use Rattle.book.specs.History.{trace, final, filtered, admissionsOf}
 use Rattle.book.specs.Counts.{ticketsGiven}
-use Rattle.book.specs.Edges.{GatewayEdges}
+use Rattle.book.specs.Book.{bookDoes, replaced}
+use Rattle.book.specs.Demand3.{withOwnCalls}
+use Rattle.book.specs.Edges.{GatewayEdges, MovedExample}
 
 pub gateway-edges : GatewayEdges
 unfolding ascii requestLabel firstPlace anyPasses table rowOf knownKem knownKdf knownAead encLength publicKeyLength keyLength parse parseFrom layoutHolds configurationAt pairsAt hex edgeList requestRefusal refusal respondRefusal next answer buffer keyRefusal retireRefusal keysOf storedKeys admitRefusal freePlace pendingIn gatewayDoes number trace final admissionsOf ticketsGiven
@@ -36,3 +38,7 @@ gateway-edges =
       nonePending = refl;
       openLength = refl;
     }
+
+pub moved-example : MovedExample
+unfolding ascii requestLabel firstPlace anyPasses table rowOf knownKem knownKdf knownAead encLength publicKeyLength keyLength parse parseFrom layoutHolds configurationAt pairsAt hex edgeList requestRefusal refusal respondRefusal next answer buffer keyRefusal retireRefusal keysOf storedKeys admitRefusal freePlace pendingIn gatewayDoes number trace final admissionsOf ticketsGiven bookDoes replaced filtered withOwnCalls
+moved-example = record { numbers = refl; order = refl; sameAnswers = refl; sameHead = refl; nonePending = refl }

@@ -10,9 +10,11 @@ use Rattle.exchange.specs.Steps.{openResult, respond}
 use Rattle.keys.specs.Keys.{Key}
 use Rattle.gateway.specs.declared.AdmitAnswer.{AdmitAnswer}
 use Rattle.gateway.specs.Gateway.{headOf, pendingIn}
-use Rattle.gateway.specs.Calls.{Call, admit, onTicket, number, toAdmit}
-use Rattle.book.specs.History.{Event, gatewayTrace, gatewayAfter}
+use Rattle.gateway.specs.Calls.{Call, admit, retire, onTicket, reporting, number, toAdmit}
+use Rattle.book.specs.History.{Event, trace, gatewayTrace, gatewayAfter}
 use Rattle.book.specs.Counts.{ticketsGiven}
+use Rattle.book.specs.Book.{freshBook, bookDoes}
+use Rattle.book.specs.Demand3.{movedList, calls, bookAfter}
 
 -- a request that names key 7, and so many bytes of enc and ciphertext behind its head
 abbrev pub request : ℕ → ℕ → ℕ → ℕ → List ℕ
@@ -84,3 +86,35 @@ pub record GatewayEdges : Type 0 where
   pub openLength :
       numbers (asking goodRequest ∷ opening 1 1 ∷ responding 1 ∷ opening 1 0 ∷ responding 1 ∷ responding 1 ∷ opening 0 0 ∷ [])
       ≡ 0 ∷ 13 ∷ 12 ∷ 0 ∷ 0 ∷ 11 ∷ 11 ∷ []
+
+-- Demand 3 on one list of calls, computed: two exchanges of which the second is answered first, a report, a retirement, and an
+-- admission that is refused after it.
+abbrev pub example : List Call
+example =
+    asking goodRequest
+    ∷ asking goodRequest
+    ∷ opening 2 0
+    ∷ reporting
+    ∷ retire 7
+    ∷ responding 2
+    ∷ opening 1 0
+    ∷ asking goodRequest
+    ∷ responding 1
+    ∷ []
+
+pub record MovedExample : Type 0 where
+  pub numbers : numbers example ≡ 0 ∷ 0 ∷ 0 ∷ 0 ∷ 0 ∷ 0 ∷ 0 ∷ 7 ∷ 0 ∷ []
+  pub order :
+      calls (movedList edgeList 2 example)
+      ≡ asking goodRequest
+      ∷ opening 1 0
+      ∷ responding 1
+      ∷ asking goodRequest
+      ∷ opening 2 0
+      ∷ responding 2
+      ∷ retire 7
+      ∷ []
+  pub sameAnswers :
+      trace bookDoes (freshBook edgeList 2) (calls (movedList edgeList 2 example)) ≡ movedList edgeList 2 example
+  pub sameHead : headOf (gatewayAfter edgeList 2 example) ≡ bookAfter edgeList 2 (calls (movedList edgeList 2 example)) .head
+  pub nonePending : bookAfter edgeList 2 (calls (movedList edgeList 2 example)) .pending ≡ []
