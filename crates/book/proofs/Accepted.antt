@@ -14,9 +14,9 @@ use Rattle.wire.proofs.Numbers.{unless-refused}
 use Rattle.exchange.specs.Request.{infoOf}
 use Rattle.exchange.specs.Exchange.{exchangeOf}
 use Rattle.exchange.specs.Steps.{answer, buffer}
-use Rattle.gateway.specs.Head.{admitAnswer, retireAnswer, report}
-use Rattle.gateway.specs.Calls.{Call, admit, retire, onTicket, reporting, toAdmit, toRetire, toStep, toReport, Done}
-use Rattle.book.specs.Book.{Book, admitted, keyRetired, moved, admitNumber, retireNumber, ticketNumber, bookDoes}
+use Rattle.gateway.specs.Registry.{admitAnswer, retireAnswer, report}
+use Rattle.gateway.specs.Calls.{Call, admit, retire, onTicket, reporting, ofAdmit, ofRetire, ofStep, ofReport, Done}
+use Rattle.book.specs.Book.{Book, admitted, keyRetired, bookStepped, admitNumber, retireNumber, ticketNumber, bookDoes}
 use Rattle.book.specs.History.{event, isAccepted}
 use Rattle.book.specs.Demand3.{isKept}
 use Rattle.book.proofs.Numbers.{admit-number, retire-number, step-number}
@@ -32,18 +32,18 @@ numberOf b reporting = 1
 abbrev pub given : Book → Call → Done Book
 given b (admit request info) =
     record {
-      answer = toAdmit (admitAnswer 0 (b .head .lastTicket + 1) request);
+      answer = ofAdmit (admitAnswer 0 (b .registry .lastTicket + 1) request);
       buffer = written 0 (infoOf request) info;
       state = admitted request b;
     }
-given b (retire id) = record { answer = toRetire (retireAnswer 0); buffer = []; state = keyRetired id b }
+given b (retire id) = record { answer = ofRetire (retireAnswer 0); buffer = []; state = keyRetired id b }
 given b (onTicket ticket step) =
     record {
-      answer = toStep (answer step (exchangeOf ticket (b .pending)));
+      answer = ofStep (answer step (exchangeOf ticket (b .pending)));
       buffer = buffer step (exchangeOf ticket (b .pending));
-      state = moved ticket step b;
+      state = bookStepped ticket step b;
     }
-given b reporting = record { answer = toReport (report (b .head) (length (b .pending))); buffer = []; state = b }
+given b reporting = record { answer = ofReport (report (b .registry) (length (b .pending))); buffer = []; state = b }
 
 -- and gives it, where its number is 0
 pub does-given : (b : Book) (call : Call) → numberOf b call ≡ 0 → bookDoes b call ≡ given b call
@@ -75,5 +75,5 @@ pub refused-stays : (b : Book) (call : Call) → eqb (numberOf b call) 0 ≡ fal
 unfolding bookDoes
 refused-stays b (admit request info) e = stays (admitNumber request info b) (admitted request b) b e
 refused-stays b (retire id) e = stays (retireNumber id b) (keyRetired id b) b e
-refused-stays b (onTicket ticket step) e = stays (ticketNumber ticket step b) (moved ticket step b) b e
+refused-stays b (onTicket ticket step) e = stays (ticketNumber ticket step b) (bookStepped ticket step b) b e
 refused-stays b reporting e = refl

@@ -10,8 +10,8 @@ use lib.ListN.{length}
 use Rattle.wire.specs.Refusals.{unlessRefused}
 use Rattle.wire.proofs.Numbers.{not-refused}
 use Rattle.exchange.specs.Request.{keyIdOf, fieldsOf, requestRefusal}
-use Rattle.keys.specs.Keys.{Key, keyPlace, keyAt, keyRefusal, retireRefusal}
-use Rattle.gateway.specs.Head.{Head, admitRefusal}
+use Rattle.keys.specs.Keys.{Key, placeOfKey, keyAt, keyRefusal, retireRefusal}
+use Rattle.gateway.specs.Registry.{Registry, admitRefusal}
 use Rattle.gateway.proofs.Deciding.{none-of-both}
 use Rattle.book.proofs.Admitting.{usable}
 
@@ -24,17 +24,17 @@ pub retire-accepted : (keys : List Key) (place : ℕ) → retireRefusal keys pla
 unfolding retireRefusal
 retire-accepted keys place e = leb-false (length keys) place (not-refused 3 (leb (length keys) place) _ e .0)
 
-pub record Admitted (head : Head) (full : Bool) (request : List ℕ) : Type 0 where
-  pub inside : keyPlace (keyIdOf request) (head .keys) < length (head .keys)
-  pub below : keyAt (head .keys) (keyPlace (keyIdOf request) (head .keys)) .count < head .cap
+pub record Admitted (registry : Registry) (full : Bool) (request : List ℕ) : Type 0 where
+  pub inside : placeOfKey (keyIdOf request) (registry .keys) < length (registry .keys)
+  pub below : keyAt (registry .keys) (placeOfKey (keyIdOf request) (registry .keys)) .count < registry .cap
   pub room : full ≡ false
 
-pub admit-accepted : (head : Head) (full : Bool) (request : List ℕ) (room : ℕ) → admitRefusal head full request room ≡ 0
-    → Admitted head full request
+pub admit-accepted : (registry : Registry) (full : Bool) (request : List ℕ) (room : ℕ) → admitRefusal registry full request room ≡ 0
+    → Admitted registry full request
 unfolding admitRefusal
-admit-accepted head full request room e =
+admit-accepted registry full request room e =
     let own = none-of-both (requestRefusal request) _ e in
-    let place = keyPlace (keyIdOf request) (head .keys) in
-    let named = none-of-both (keyRefusal (head .cap) (head .keys) place (fieldsOf request)) _ (own .1) in
-    let key = usable (head .cap) (head .keys) place (fieldsOf request) (named .0) in
+    let place = placeOfKey (keyIdOf request) (registry .keys) in
+    let named = none-of-both (keyRefusal (registry .cap) (registry .keys) place (fieldsOf request)) _ (own .1) in
+    let key = usable (registry .cap) (registry .keys) place (fieldsOf request) (named .0) in
     record { inside = key .isKey; below = key .uses; room = not-refused 8 full _ (named .1) .0 }

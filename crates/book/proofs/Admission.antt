@@ -5,9 +5,9 @@ use mathlib.Core.List.{List}
 use Prim.Native.Nat.{ℕ}
 use Rattle.keylist.specs.Layout.{parse}
 use Rattle.exchange.specs.Request.{keyIdOf}
-use Rattle.keys.specs.Keys.{keyPlace}
+use Rattle.keys.specs.Keys.{placeOfKey}
 use Rattle.gateway.specs.declared.Gateway.{Gateway}
-use Rattle.gateway.specs.Gateway.{freshGateway, headOf, nextTicket}
+use Rattle.gateway.specs.Gateway.{freshGateway, registryOf, nextTicket}
 use Rattle.gateway.specs.Calls.{admit, number, gatewayDoes, admitNumber}
 use Rattle.book.specs.Book.{Book, freshBook}
 use Rattle.book.specs.OneCall.{Admissible, AdmissionExactly}
@@ -24,14 +24,14 @@ numbered g request info = admit-number (admitNumber request info g) (nextTicket 
 
 -- the key that is named is the first of its id
 first-named : (g : Gateway) (b : Book) (request info : List ℕ) (h : Admissible g request info) → Alike g b
-    → keyPlace (keyIdOf request) (headOf g .keys) ≡ h .place
+    → placeOfKey (keyIdOf request) (registryOf g .keys) ≡ h .place
 first-named g b request info h r =
-    ap (λ (id : ℕ). keyPlace id (headOf g .keys)) (sym (h .named))
-    ∙ place-of-id (headOf g .keys) (h .place) (rw (keys-alike g b r) (r .sound .distinct)) (h .isKey)
+    ap (λ (id : ℕ). placeOfKey id (registryOf g .keys)) (sym (h .named))
+    ∙ place-of-id (registryOf g .keys) (h .place) (rw (keys-alike g b r) (r .sound .distinct)) (h .isKey)
 
 pub admission-exactly : AdmissionExactly
-admission-exactly list cap made request info =
-    let r = alike-after (freshGateway (parse list) cap) (freshBook list cap) made (fresh-alike list cap) in (
+admission-exactly list cap calls request info =
+    let r = alike-after (freshGateway list cap) (freshBook list cap) calls (fresh-alike list cap) in (
       λ e. admissible _ request info (sym (numbered _ request info) ∙ e),
       λ h. numbered _ request info ∙ admitted-then _ request info h (first-named _ _ request info h r),
     )

@@ -21,13 +21,13 @@ use Rattle.exchange.specs.declared.request.Request.{Request}
 use Rattle.exchange.specs.Request.{keyIdOf, kdfOf, aeadOf, fieldsOf, requestRefusal}
 use Rattle.exchange.proofs.Requests.{accepted-request, request-accepted}
 use Rattle.exchange.specs.Exchange.{free, isFree}
-use Rattle.keys.specs.Keys.{Key, hasId, keyPlace, keyAt, noKey, isPair, offers, keyRefusal}
+use Rattle.keys.specs.Keys.{Key, hasId, placeOfKey, keyAt, noKey, isPair, offers, keyRefusal}
 use Rattle.gateway.specs.declared.Gateway.{Gateway}
-use Rattle.gateway.specs.Head.{admitRefusal}
-use Rattle.gateway.specs.Gateway.{headOf, freePlace, isFull}
+use Rattle.gateway.specs.Registry.{admitRefusal}
+use Rattle.gateway.specs.Gateway.{registryOf, freePlace, isFull}
 use Rattle.gateway.specs.Calls.{admitNumber}
 use Rattle.gateway.proofs.Deciding.{none-of-both, both-none}
-use Rattle.book.specs.OneCall.{Holds, Admissible}
+use Rattle.book.specs.OneCall.{IsElement, Admissible}
 use Rattle.keys.specs.Stored.{noPair}
 use Rattle.book.proofs.Placing.{place-is-free}
 
@@ -41,7 +41,7 @@ same-pair p kdf aead k a = rw (← k, ← a)
 
 -- a pair that is listed stands in the list
 pub listed-pair : (kdf aead : ℕ) (pairs : List Pair) → anyPasses (isPair kdf aead) pairs ≡ true
-    → Holds noPair pairs (record { kdf = kdf; aead = aead })
+    → IsElement noPair pairs (record { kdf = kdf; aead = aead })
 listed-pair kdf aead pairs e =
     let p = getD pairs (firstPlace (isPair kdf aead) pairs) noPair in
     let same = any-first noPair (isPair kdf aead) pairs e in
@@ -49,7 +49,7 @@ listed-pair kdf aead pairs e =
     let a : p .aead ≡ aead = eqb-true (p .aead) aead (and-right (eqb (p .kdf) kdf) (eqb (p .aead) aead) same) in
     (firstPlace (isPair kdf aead) pairs, any-inside noPair (isPair kdf aead) pairs e, same-pair p kdf aead k a)
 
-pub pair-listed : (kdf aead : ℕ) (pairs : List Pair) → Holds noPair pairs (record { kdf = kdf; aead = aead })
+pub pair-listed : (kdf aead : ℕ) (pairs : List Pair) → IsElement noPair pairs (record { kdf = kdf; aead = aead })
     → anyPasses (isPair kdf aead) pairs ≡ true
 pair-listed kdf aead pairs h =
     any-at noPair (isPair kdf aead) pairs (h .0) (h .1)
@@ -105,8 +105,8 @@ not-full table p h e = rw (any-at free isFree table p h e)
 pub admissible : (g : Gateway) (request info : List ℕ) → admitNumber request info g ≡ 0 → Admissible g request info
 unfolding admitRefusal
 admissible g request info e =
-    let keys = headOf g .keys in
-    let place = keyPlace (keyIdOf request) keys in
+    let keys = registryOf g .keys in
+    let place = placeOfKey (keyIdOf request) keys in
     let full = isFull (g .table) in
     let last = 14 when ltb (length info) infoLength otherwise 0 in
     let a = none-of-both (requestRefusal request) _ e in
@@ -135,10 +135,10 @@ admissible g request info e =
 
 -- the other way, where the key that is named is the first of its id
 pub admitted-then : (g : Gateway) (request info : List ℕ) (h : Admissible g request info)
-    → keyPlace (keyIdOf request) (headOf g .keys) ≡ h .place → admitNumber request info g ≡ 0
+    → placeOfKey (keyIdOf request) (registryOf g .keys) ≡ h .place → admitNumber request info g ≡ 0
 unfolding admitRefusal
 admitted-then g request info h first =
-    let keys = headOf g .keys in
+    let keys = registryOf g .keys in
     let offered : offers (kdfOf request) (aeadOf request) (keyAt keys (h .place)) ≡ true = rw (h .kdfKnown, h .aeadKnown) (pair-listed (kdfOf request) (aeadOf request) (keyAt keys (h .place) .pairs) (h .pairOffered)) in
     let u : Usable (g .cap) keys (h .place) (fieldsOf request) = record { isKey = h .isKey; kem = h .kem; pair = offered; live = h .live; uses = h .uses } in
     both-none (requestRefusal request) _

@@ -14,10 +14,10 @@ use Rattle.wire.specs.Refusals.{unlessRefused}
 use Rattle.wire.proofs.Booleans.{either}
 use Rattle.wire.proofs.Matches.{first-passes}
 use Rattle.exchange.specs.Request.{keyIdOf}
-use Rattle.keys.specs.Keys.{Key, noKey, hasId, keyPlace, keyAt, used, retired}
-use Rattle.gateway.specs.Head.{admitAnswer}
-use Rattle.gateway.specs.Calls.{Call, admit, retire, onTicket, reporting, Answer, toAdmit}
-use Rattle.book.specs.Book.{Book, setIsFull, admitted, keyRetired, moved, admitNumber, retireNumber, ticketNumber, bookDoes}
+use Rattle.keys.specs.Keys.{Key, noKey, hasId, placeOfKey, keyAt, withUse, withRetirement}
+use Rattle.gateway.specs.Registry.{admitAnswer}
+use Rattle.gateway.specs.Calls.{Call, admit, retire, onTicket, reporting, Answer, ofAdmit}
+use Rattle.book.specs.Book.{Book, setIsFull, admitted, keyRetired, bookStepped, admitNumber, retireNumber, ticketNumber, bookDoes}
 use Rattle.book.specs.History.{Event, event, trace, final, filtered, admissionsOf, ticketsOf, keyIdsOf}
 use Rattle.book.specs.Counts.{admissionsOfKey, ticketsGiven, countingFrom}
 use Rattle.book.proofs.Accepting.{unless-kept, Admitted, admit-accepted}
@@ -25,65 +25,65 @@ use Rattle.book.proofs.KeyCounts.{ids, key-itself, key-changed, number-
 use Rattle.book.proofs.Sound.{Sound, sound-kept}
 
 -- ids and places of the keys stay, after a call and along a history
-ids-kept : (b : Book) (call : Call) → ids (bookDoes b call .state .head .keys) ≡ ids (b .head .keys)
+ids-kept : (b : Book) (call : Call) → ids (bookDoes b call .state .registry .keys) ≡ ids (b .registry .keys)
 unfolding bookDoes
 ids-kept b (admit request info) =
-    unless-kept (λ (c : Book). ids (c .head .keys) ≡ ids (b .head .keys)) (admitNumber request info b)
-    (λ e. used-ids (keyPlace (keyIdOf request) (b .head .keys)) (b .head .keys)) refl
+    unless-kept (λ (c : Book). ids (c .registry .keys) ≡ ids (b .registry .keys)) (admitNumber request info b)
+    (λ e. used-ids (placeOfKey (keyIdOf request) (b .registry .keys)) (b .registry .keys)) refl
 ids-kept b (retire id) =
-    unless-kept (λ (c : Book). ids (c .head .keys) ≡ ids (b .head .keys)) (retireNumber id b)
-    (λ e. retired-ids (keyPlace id (b .head .keys)) (b .head .keys)) refl
+    unless-kept (λ (c : Book). ids (c .registry .keys) ≡ ids (b .registry .keys)) (retireNumber id b)
+    (λ e. retired-ids (placeOfKey id (b .registry .keys)) (b .registry .keys)) refl
 ids-kept b (onTicket ticket step) =
-    unless-kept (λ (c : Book). ids (c .head .keys) ≡ ids (b .head .keys)) (ticketNumber ticket step b) (λ e. refl) refl
+    unless-kept (λ (c : Book). ids (c .registry .keys) ≡ ids (b .registry .keys)) (ticketNumber ticket step b) (λ e. refl) refl
 ids-kept b reporting = refl
 
-pub ids-after : (b : Book) (made : List Call) → ids (final bookDoes b made .head .keys) ≡ ids (b .head .keys)
+pub ids-after : (b : Book) (calls : List Call) → ids (final bookDoes b calls .registry .keys) ≡ ids (b .registry .keys)
 unfolding final
 ids-after b [] = refl
-ids-after b (call ∷ made) = ids-after (bookDoes b call .state) made ∙ ids-kept b call
+ids-after b (call ∷ calls) = ids-after (bookDoes b call .state) calls ∙ ids-kept b call
 
 -- what an answer adds to the count of the key that has the id
 abbrev gain : Answer → ℕ → ℕ
 gain answer id = pick (among (keyIdsOf answer) id) 1 0
 
 -- admit adds one to the count of the key that it names, the other calls nothing
-admit-gains : (request : List ℕ) (b : Book) (n place : ℕ) → Sound b → (n ≡ 0 → Admitted (b .head) (setIsFull b) request)
-    → place < length (b .head .keys)
-    → keyAt (unlessRefused n (admitted request b) b .head .keys) place .count
-    ≡ keyAt (b .head .keys) place .count
-    + gain (toAdmit (admitAnswer n (b .head .lastTicket + 1) request)) (keyAt (b .head .keys) place .id)
+admit-gains : (request : List ℕ) (b : Book) (n place : ℕ) → Sound b → (n ≡ 0 → Admitted (b .registry) (setIsFull b) request)
+    → place < length (b .registry .keys)
+    → keyAt (unlessRefused n (admitted request b) b .registry .keys) place .count
+    ≡ keyAt (b .registry .keys) place .count
+    + gain (ofAdmit (admitAnswer n (b .registry .lastTicket + 1) request)) (keyAt (b .registry .keys) place .id)
 unfolding anyPasses admissionsOf
 admit-gains request b zero place s accepted inside =
-    let keys = b .head .keys in
-    let named = keyPlace (keyIdOf request) keys in
+    let keys = b .registry .keys in
+    let named = placeOfKey (keyIdOf request) keys in
     either (eqb (keyIdOf request) (keyAt keys place .id))
     (λ e.
     let here : named ≡ place =
     rw (← eqb-true (keyIdOf request) (keyAt keys place .id) e) at (place-of-id keys place (s .distinct) inside) in
-    rw (e, here, key-itself used place keys))
+    rw (e, here, key-itself withUse place keys))
     (λ e.
     let apart : place ≡ named → ⊥ =
     λ here. eqb-false (keyIdOf request) (keyAt keys place .id) e
     (sym (rw here (eqb-true (keyAt keys named .id) (keyIdOf request)
     (first-passes noKey (hasId (keyIdOf request)) keys (accepted refl .inside))))) in
-    rw (e, key-changed used named place keys apart) (omega arith))
+    rw (e, key-changed withUse named place keys apart) (omega arith))
 admit-gains request b (suc n) place s accepted inside = omega arith
 
-no-gain : (n : ℕ) (b c : Book) (place : ℕ) → keyAt (c .head .keys) place .count ≡ keyAt (b .head .keys) place .count
-    → keyAt (unlessRefused n c b .head .keys) place .count ≡ keyAt (b .head .keys) place .count + 0
+no-gain : (n : ℕ) (b c : Book) (place : ℕ) → keyAt (c .registry .keys) place .count ≡ keyAt (b .registry .keys) place .count
+    → keyAt (unlessRefused n c b .registry .keys) place .count ≡ keyAt (b .registry .keys) place .count + 0
 no-gain zero b c place e = omega arith
 no-gain (suc n) b c place e = omega arith
 
-gains : (b : Book) (call : Call) (place : ℕ) → Sound b → place < length (b .head .keys)
-    → keyAt (bookDoes b call .state .head .keys) place .count
-    ≡ keyAt (b .head .keys) place .count + gain (bookDoes b call .answer) (keyAt (b .head .keys) place .id)
+gains : (b : Book) (call : Call) (place : ℕ) → Sound b → place < length (b .registry .keys)
+    → keyAt (bookDoes b call .state .registry .keys) place .count
+    ≡ keyAt (b .registry .keys) place .count + gain (bookDoes b call .answer) (keyAt (b .registry .keys) place .id)
 unfolding bookDoes admissionsOf anyPasses
 gains b (admit request info) place s inside =
-    admit-gains request b (admitNumber request info b) place s (admit-accepted (b .head) (setIsFull b) request (length info)) inside
+    admit-gains request b (admitNumber request info b) place s (admit-accepted (b .registry) (setIsFull b) request (length info)) inside
 gains b (retire id) place s inside =
     no-gain (retireNumber id b) b (keyRetired id b) place
-    (number-kept (λ (key : Key). key .count) retired (keyPlace id (b .head .keys)) place (b .head .keys) refl)
-gains b (onTicket ticket step) place s inside = no-gain (ticketNumber ticket step b) b (moved ticket step b) place refl
+    (number-kept (λ (key : Key). key .count) withRetirement (placeOfKey id (b .registry .keys)) place (b .registry .keys) refl)
+gains b (onTicket ticket step) place s inside = no-gain (ticketNumber ticket step b) b (bookStepped ticket step b) place refl
 gains b reporting place s inside = omega arith
 
 -- the counts along a history
@@ -92,21 +92,21 @@ unfolding filtered
 admissions-more id e es =
     either (among (keyIdsOf (e .answer)) id) (λ t. rw t (omega arith)) (λ t. rw t (omega arith))
 
-pub counted : (b : Book) (made : List Call) (place : ℕ) → Sound b → place < length (b .head .keys)
-    → keyAt (final bookDoes b made .head .keys) place .count
-    ≡ keyAt (b .head .keys) place .count + admissionsOfKey (keyAt (b .head .keys) place .id) (trace bookDoes b made)
+pub counted : (b : Book) (calls : List Call) (place : ℕ) → Sound b → place < length (b .registry .keys)
+    → keyAt (final bookDoes b calls .registry .keys) place .count
+    ≡ keyAt (b .registry .keys) place .count + admissionsOfKey (keyAt (b .registry .keys) place .id) (trace bookDoes b calls)
 unfolding final trace filtered
 counted b [] place s inside = omega arith
-counted b (call ∷ made) place s inside =
-    let keys = b .head .keys in
+counted b (call ∷ calls) place s inside =
+    let keys = b .registry .keys in
     let then = bookDoes b call .state in
     let id = keyAt keys place .id in
-    let more = counted then made place (sound-kept b call s) (rw (same-length (then .head .keys) keys (ids-kept b call)) inside) in
+    let more = counted then calls place (sound-kept b call s) (rw (same-length (then .registry .keys) keys (ids-kept b call)) inside) in
     omega (
       arith,
       gains b call place s inside,
-      admissions-more id (event call (bookDoes b call)) (trace bookDoes then made),
-      rw (same-id (then .head .keys) keys place (ids-kept b call)) at more,
+      admissions-more id (event call (bookDoes b call)) (trace bookDoes then calls),
+      rw (same-id (then .registry .keys) keys place (ids-kept b call)) at more,
     )
 
 -- one ticket more
@@ -119,37 +119,37 @@ counting-more first (suc n) =
 
 -- admit gives the next ticket, the other calls none
 admit-gives : (request : List ℕ) (b : Book) (n : ℕ)
-    → countingFrom 1 (b .head .lastTicket) ++ ticketsOf (toAdmit (admitAnswer n (b .head .lastTicket + 1) request))
-    ≡ countingFrom 1 (unlessRefused n (admitted request b) b .head .lastTicket)
+    → countingFrom 1 (b .registry .lastTicket) ++ ticketsOf (ofAdmit (admitAnswer n (b .registry .lastTicket + 1) request))
+    ≡ countingFrom 1 (unlessRefused n (admitted request b) b .registry .lastTicket)
 unfolding admissionsOf
 admit-gives request b zero =
-    let next : b .head .lastTicket + 1 ≡ 1 + b .head .lastTicket = omega arith in
+    let next : b .registry .lastTicket + 1 ≡ 1 + b .registry .lastTicket = omega arith in
     rw counting-more (rw next)
-admit-gives request b (suc n) = append-nil (countingFrom 1 (b .head .lastTicket))
+admit-gives request b (suc n) = append-nil (countingFrom 1 (b .registry .lastTicket))
 
-no-ticket : (n : ℕ) (b c : Book) → c .head .lastTicket ≡ b .head .lastTicket
-    → countingFrom 1 (b .head .lastTicket) ++ [] ≡ countingFrom 1 (unlessRefused n c b .head .lastTicket)
-no-ticket zero b c e = rw e (append-nil (countingFrom 1 (b .head .lastTicket)))
-no-ticket (suc n) b c e = append-nil (countingFrom 1 (b .head .lastTicket))
+no-ticket : (n : ℕ) (b c : Book) → c .registry .lastTicket ≡ b .registry .lastTicket
+    → countingFrom 1 (b .registry .lastTicket) ++ [] ≡ countingFrom 1 (unlessRefused n c b .registry .lastTicket)
+no-ticket zero b c e = rw e (append-nil (countingFrom 1 (b .registry .lastTicket)))
+no-ticket (suc n) b c e = append-nil (countingFrom 1 (b .registry .lastTicket))
 
 gives : (b : Book) (call : Call)
-    → countingFrom 1 (b .head .lastTicket) ++ ticketsOf (bookDoes b call .answer)
-    ≡ countingFrom 1 (bookDoes b call .state .head .lastTicket)
+    → countingFrom 1 (b .registry .lastTicket) ++ ticketsOf (bookDoes b call .answer)
+    ≡ countingFrom 1 (bookDoes b call .state .registry .lastTicket)
 unfolding bookDoes admissionsOf
 gives b (admit request info) = admit-gives request b (admitNumber request info b)
 gives b (retire id) = no-ticket (retireNumber id b) b (keyRetired id b) refl
-gives b (onTicket ticket step) = no-ticket (ticketNumber ticket step b) b (moved ticket step b) refl
-gives b reporting = append-nil (countingFrom 1 (b .head .lastTicket))
+gives b (onTicket ticket step) = no-ticket (ticketNumber ticket step b) b (bookStepped ticket step b) refl
+gives b reporting = append-nil (countingFrom 1 (b .registry .lastTicket))
 
 -- the tickets along a history
-pub given-after : (b : Book) (made : List Call)
-    → countingFrom 1 (b .head .lastTicket) ++ ticketsGiven (trace bookDoes b made)
-    ≡ countingFrom 1 (final bookDoes b made .head .lastTicket)
+pub given-after : (b : Book) (calls : List Call)
+    → countingFrom 1 (b .registry .lastTicket) ++ ticketsGiven (trace bookDoes b calls)
+    ≡ countingFrom 1 (final bookDoes b calls .registry .lastTicket)
 unfolding final trace ticketsGiven
-given-after b [] = append-nil (countingFrom 1 (b .head .lastTicket))
-given-after b (call ∷ made) =
+given-after b [] = append-nil (countingFrom 1 (b .registry .lastTicket))
+given-after b (call ∷ calls) =
     rw (
-      ← append-assoc (countingFrom 1 (b .head .lastTicket)) (ticketsOf (bookDoes b call .answer))
-          (ticketsGiven (trace bookDoes (bookDoes b call .state) made)),
+      ← append-assoc (countingFrom 1 (b .registry .lastTicket)) (ticketsOf (bookDoes b call .answer))
+          (ticketsGiven (trace bookDoes (bookDoes b call .state) calls)),
       gives b call,
-    ) (given-after (bookDoes b call .state) made)
+    ) (given-after (bookDoes b call .state) calls)

@@ -7,7 +7,7 @@ use native.Mathlib.Omega.{arith}
 use Rattle.wire.proofs.Booleans.{either}
 use Rattle.keylist.specs.Layout.{Configuration, Outcome, good, bad, parse}
 use Rattle.keys.specs.Keys.{keyAt}
-use Rattle.gateway.specs.Head.{capHolds, freshHead}
+use Rattle.gateway.specs.Registry.{capHolds, withCap, registryFrom}
 use Rattle.gateway.specs.Gateway.{freshGateway}
 use Rattle.gateway.specs.Calls.{Call}
 use Rattle.book.specs.Book.{freshBook, bookDoes}
@@ -20,43 +20,43 @@ use Rattle.book.proofs.Refinement.{fresh-alike, alike-after, refinement
 use Rattle.book.proofs.Counting.{ids-after, counted, given-after}
 
 -- at first counts and last ticket are 0
-fresh-counts : (o : Outcome (List Configuration)) (cap place : ℕ) → keyAt (freshHead o cap .keys) place .count ≡ 0
+fresh-counts : (o : Outcome (List Configuration)) (cap place : ℕ) → keyAt (registryFrom cap (withCap cap o) .keys) place .count ≡ 0
 fresh-counts (good cs) cap place = either (capHolds cap) (λ h. rw h (fresh-count cs place)) (λ h. rw h)
 fresh-counts (bad r) cap place = refl
 
-fresh-last : (o : Outcome (List Configuration)) (cap : ℕ) → freshHead o cap .lastTicket ≡ 0
+fresh-last : (o : Outcome (List Configuration)) (cap : ℕ) → registryFrom cap (withCap cap o) .lastTicket ≡ 0
 fresh-last (good cs) cap = either (capHolds cap) (λ h. rw h) (λ h. rw h)
 fresh-last (bad r) cap = refl
 
 -- the book's counts and tickets
-book-counts : (list : List ℕ) (cap : ℕ) (made : List Call) → Sound (freshBook list cap) → Sound (bookAfter list cap made)
-    → Counts (bookAfter list cap made .head) (trace bookDoes (freshBook list cap) made)
+book-counts : (list : List ℕ) (cap : ℕ) (calls : List Call) → Sound (freshBook list cap) → Sound (bookAfter list cap calls)
+    → Counts (bookAfter list cap calls .registry) (trace bookDoes (freshBook list cap) calls)
 unfolding countingFrom
-book-counts list cap made start end =
+book-counts list cap calls start end =
     let fresh = freshBook list cap in
-    let keys = bookAfter list cap made .head .keys in
-    let same = ids-after fresh made in
+    let keys = bookAfter list cap calls .registry .keys in
+    let same = ids-after fresh calls in
     record {
       admissions = λ place inside.
           rw (
-            counted fresh made place start (rw (same-length keys (fresh .head .keys) same) at inside),
-            same-id keys (fresh .head .keys) place same,
+            counted fresh calls place start (rw (same-length keys (fresh .registry .keys) same) at inside),
+            same-id keys (fresh .registry .keys) place same,
             fresh-counts (parse list) cap place,
           ) (omega arith);
       withinCap = λ place inside. end .withinCap place;
-      capBound = end .capBound;
+      capBound = (end .capLeast, end .capBound);
       lastTicket = end .lastTicket;
-      lastTicketBound = ticket-bound (bookAfter list cap made) end;
-      tickets = rw (fresh-last (parse list) cap) at (given-after fresh made);
+      lastTicketBound = ticket-bound (bookAfter list cap calls) end;
+      tickets = rw (fresh-last (parse list) cap) at (given-after fresh calls);
     }
 
 pub counts-hold : CountsHold
-counts-hold list cap made =
+counts-hold list cap calls =
     let fresh = fresh-alike list cap in
-    let end = alike-after (freshGateway (parse list) cap) (freshBook list cap) made fresh in
-    rw (end .head, refinement-holds list cap made .sameAnswers) (book-counts list cap made (fresh .sound) (end .sound))
+    let end = alike-after (freshGateway list cap) (freshBook list cap) calls fresh in
+    rw (end .registry, refinement-holds list cap calls .sameAnswers) (book-counts list cap calls (fresh .sound) (end .sound))
 
 pub nothing-wraps : NothingWraps
-nothing-wraps list cap made =
-    let c = counts-hold list cap made in
-    (omega (arith, c .lastTicketBound), λ place inside. omega (arith, c .withinCap place inside, c .capBound))
+nothing-wraps list cap calls =
+    let c = counts-hold list cap calls in
+    (omega (arith, c .lastTicketBound), λ place inside. omega (arith, c .withinCap place inside, c .capBound .1))

@@ -7,14 +7,14 @@ use Rattle.book.specs.Demand3.{Refinement, Demand3, Demand3Holds}
 use Rattle.book.proofs.Refinement.{refinement-holds}
 use Rattle.book.proofs.Moving.{Moved, book-moved}
 
-of-halves : (list : List ℕ) (cap : ℕ) (made : List Call) → Refinement list cap made → Moved list cap made → Demand3 list cap made
-of-halves list cap made same moved =
+of-halves : (list : List ℕ) (cap : ℕ) (calls : List Call) → Refinement list cap calls → Moved list cap calls → Demand3 list cap calls
+of-halves list cap calls same bookStepped =
     record {
-      rearranged = rw (same .sameAnswers) (moved .rearranged);
-      sameAnswers = rw (same .sameAnswers) (moved .sameAnswers);
-      sameHead = rw (same .sameAnswers, moved .sameBook) (same .sameHead);
-      samePending = rw (same .sameAnswers, moved .sameBook) (same .samePending);
+      rearranged = rw (same .sameAnswers) (bookStepped .rearranged);
+      sameAnswers = rw (same .sameAnswers) (bookStepped .sameAnswers);
+      sameRegistry = rw (same .sameAnswers, bookStepped .sameBook) (same .sameRegistry);
+      samePending = rw (same .sameAnswers, bookStepped .sameBook) (same .samePending);
     }
 
 pub demand3-holds : Demand3Holds
-demand3-holds list cap made = of-halves list cap made (refinement-holds list cap made) (book-moved list cap made)
+demand3-holds list cap calls = of-halves list cap calls (refinement-holds list cap calls) (book-moved list cap calls)

@@ -12,7 +12,7 @@ use Rattle.exchange.specs.Request.{requestRefusal}
 use Rattle.exchange.specs.Steps.{refusal, respondRefusal, next, answer, buffer}
 use Rattle.keys.specs.Keys.{keyRefusal, retireRefusal}
 use Rattle.keys.specs.Stored.{keysOf, storedKeys}
-use Rattle.gateway.specs.Head.{admitRefusal}
+use Rattle.gateway.specs.Registry.{admitRefusal}
 use Rattle.gateway.specs.Gateway.{freePlace, pendingIn}
 use Rattle.gateway.specs.Calls.{gatewayDoes, number}
 use Rattle.book.specs.History.{trace, final, filtered, admissionsOf}
@@ -41,4 +41,4 @@ gateway-edges =
 
 pub moved-example : MovedExample
 unfolding ascii requestLabel firstPlace anyPasses table rowOf knownKem knownKdf knownAead encLength publicKeyLength keyLength parse parseFrom layoutHolds configurationAt pairsAt hex edgeList requestRefusal refusal respondRefusal next answer buffer keyRefusal retireRefusal keysOf storedKeys admitRefusal freePlace pendingIn gatewayDoes number trace final admissionsOf ticketsGiven bookDoes replaced filtered withOwnCalls
-moved-example = record { numbers = refl; order = refl; sameAnswers = refl; sameHead = refl; nonePending = refl }
+moved-example = record { numbers = refl; order = refl; sameAnswers = refl; sameRegistry = refl; nonePending = refl }

@@ -14,8 +14,8 @@ use Rattle.wire.specs.Search.{firstPlace, among}
 use Rattle.wire.proofs.Booleans.{either, true-or-false}
 use Rattle.wire.proofs.Matches.{among-at}
 use Rattle.keylist.specs.Layout.{Configuration}
-use Rattle.keys.specs.Keys.{Key, noKey, freshKey, keyPlace, keyAt, changed, used, retired}
-use Rattle.gateway.specs.Head.{mostUses}
+use Rattle.keys.specs.Keys.{Key, noKey, freshKey, placeOfKey, keyAt, changed, withUse, withRetirement}
+use Rattle.gateway.specs.Registry.{mostUses}
 use Rattle.book.specs.Counts.{sumOfCounts}
 use Rattle.keys.proofs.Parsed.{Distinct}
 
@@ -56,25 +56,25 @@ number-kept f change place other keys e =
 
 -- no count is above the cap where one use more is given to a key that is below it
 pub used-within : (cap place : ℕ) (keys : List Key) → ((other : ℕ) → keyAt keys other .count ≤ cap) → place < length keys
-    → keyAt keys place .count < cap → (other : ℕ) → keyAt (changed used place keys) other .count ≤ cap
+    → keyAt keys place .count < cap → (other : ℕ) → keyAt (changed withUse place keys) other .count ≤ cap
 used-within cap place keys within inside below other =
     either (eqb other place)
-    (λ e. rw (eqb-true other place e, key-itself used place keys) (omega arith))
-    (λ e. rw (key-changed used place other keys (eqb-false other place e)) (within other))
+    (λ e. rw (eqb-true other place e, key-itself withUse place keys) (omega arith))
+    (λ e. rw (key-changed withUse place other keys (eqb-false other place e)) (within other))
 
 pub used-sum : (place : ℕ) (keys : List Key) → place < length keys
-    → sumOfCounts (changed used place keys) ≡ sumOfCounts keys + 1
-used-sum place keys inside = omega (arith, sum-set keys place (used (keyAt keys place)) inside)
+    → sumOfCounts (changed withUse place keys) ≡ sumOfCounts keys + 1
+used-sum place keys inside = omega (arith, sum-set keys place (withUse (keyAt keys place)) inside)
 
-pub used-ids : (place : ℕ) (keys : List Key) → ids (changed used place keys) ≡ ids keys
-used-ids place keys = map-set-same (λ (key : Key). key .id) keys place (used (keyAt keys place)) noKey refl
+pub used-ids : (place : ℕ) (keys : List Key) → ids (changed withUse place keys) ≡ ids keys
+used-ids place keys = map-set-same (λ (key : Key). key .id) keys place (withUse (keyAt keys place)) noKey refl
 
 -- a retirement leaves ids and counts
-pub retired-sum : (place : ℕ) (keys : List Key) → place < length keys → sumOfCounts (changed retired place keys) ≡ sumOfCounts keys
-retired-sum place keys inside = omega (arith, sum-set keys place (retired (keyAt keys place)) inside)
+pub retired-sum : (place : ℕ) (keys : List Key) → place < length keys → sumOfCounts (changed withRetirement place keys) ≡ sumOfCounts keys
+retired-sum place keys inside = omega (arith, sum-set keys place (withRetirement (keyAt keys place)) inside)
 
-pub retired-ids : (place : ℕ) (keys : List Key) → ids (changed retired place keys) ≡ ids keys
-retired-ids place keys = map-set-same (λ (key : Key). key .id) keys place (retired (keyAt keys place)) noKey refl
+pub retired-ids : (place : ℕ) (keys : List Key) → ids (changed withRetirement place keys) ≡ ids keys
+retired-ids place keys = map-set-same (λ (key : Key). key .id) keys place (withRetirement (keyAt keys place)) noKey refl
 
 -- the same ids: the same number of keys, and each has its id
 pub same-id : (keys others : List Key) (place : ℕ) → ids keys ≡ ids others → keyAt keys place .id ≡ keyAt others place .id
@@ -93,7 +93,7 @@ among-ids keys place h =
     among-at (ids keys) (keyAt keys place .id) place (rw length-map h) (List·getD-map (λ (key : Key). key .id) keys place noKey)
 
 pub place-of-id : (keys : List Key) (place : ℕ) → Distinct (ids keys) → place < length keys
-    → keyPlace (keyAt keys place .id) keys ≡ place
+    → placeOfKey (keyAt keys place .id) keys ≡ place
 unfolding firstPlace
 place-of-id [] place d h = absurd (not-suc-le-zero h)
 place-of-id (k ∷ keys) zero d h = rw (eq-eqb (k .id) (k .id) refl)

@@ -16,11 +16,11 @@ use Rattle.exchange.specs.declared.Exchange.{Exchange}
 use Rattle.exchange.specs.Request.{fieldsOf}
 use Rattle.exchange.specs.Exchange.{isFree, exchangeOf, asked}
 use Rattle.exchange.specs.Steps.{Step, openResult, respond, abandon, refusal, respondRefusal}
-use Rattle.gateway.specs.Head.{Head}
+use Rattle.gateway.specs.Registry.{Registry}
 use Rattle.gateway.specs.Calls.{Call, admit, retire, onTicket, reporting}
 use Rattle.book.specs.Book.{Book, freshBook, bookDoes}
 use Rattle.book.specs.History.{Event, event, trace, final, filtered, admissionsOf}
-use Rattle.book.specs.Demand3.{struck, isOn, withOwnCalls, movedUp, calls}
+use Rattle.book.specs.Demand3.{struck, isOn, withOwnCalls, movedUp, callsOf}
 use Rattle.book.proofs.Pending.{asked-other, exchange-behind}
 use Rattle.book.proofs.Accepted.{numberOf, given}
 use Rattle.book.proofs.Runs.{Run, run-append, run-trace, run-final, struck-run}
@@ -47,7 +47,7 @@ module _ (all : List Event) (c : Book) where
   -- what is left of them at a book: no calls on its pending exchanges, and all calls on the tickets that are not given yet
   record Rest (b : Book) (events : List Event) : Type 0 where
     pub old : (t : ℕ) → isFree (exchangeOf t (b .pending)) ≡ false → itsCalls (t ∷ []) events ≡ []
-    pub new : (t : ℕ) → b .head .lastTicket < t → itsCalls (t ∷ []) events ≡ itsCalls (t ∷ []) all
+    pub new : (t : ℕ) → b .registry .lastTicket < t → itsCalls (t ∷ []) events ≡ itsCalls (t ∷ []) all
 
   abbrev CanSort : List Event → Type 0
   CanSort events = (b : Book) → Rest b events → Run b events c → Sorted b c (withOwnCalls all (inOrder events)) events
@@ -73,7 +73,7 @@ module _ (all : List Event) (c : Book) where
 
     -- the ticket of an admission there, and the rest without the calls on it
     abbrev ticket : ℕ
-    ticket = b .head .lastTicket + 1
+    ticket = b .registry .lastTicket + 1
 
     abbrev others : List Event
     others = otherCalls (ticket ∷ []) events
@@ -86,7 +86,7 @@ module _ (all : List Event) (c : Book) where
       rest-others : Rest b (told (admit request info) ∷ events) → (p : Pulled (ticket ∷ []) opened c events) → Rest (p .between) others
       unfolding filtered
       rest-others rest p =
-          let last : p .between .head .lastTicket ≡ ticket = ap (λ (h : Head). h .lastTicket) (p .beside .head) in
+          let last : p .between .registry .lastTicket ≡ ticket = ap (λ (h : Registry). h .lastTicket) (p .beside .registry) in
           record {
             old = λ t h.
                 either
@@ -143,26 +143,26 @@ module _ (all : List Event) (c : Book) where
 
 -- the calls that are kept, from a fresh book
 abbrev pub keptEvents : List ℕ → ℕ → List Call → List Event
-keptEvents list cap made = struck (trace bookDoes (freshBook list cap) made)
+keptEvents list cap calls = struck (trace bookDoes (freshBook list cap) calls)
 
 -- the half of demand 3 that is about the book
-pub record Moved (list : List ℕ) (cap : ℕ) (made : List Call) : Type 0 where
+pub record Moved (list : List ℕ) (cap : ℕ) (calls : List Call) : Type 0 where
   -- without the calls that are struck out the others get what they had, and lead to the same book
-  pub keptAnswers : trace bookDoes (freshBook list cap) (calls (keptEvents list cap made)) ≡ keptEvents list cap made
-  pub keptBook : final bookDoes (freshBook list cap) (calls (keptEvents list cap made)) ≡ final bookDoes (freshBook list cap) made
+  pub keptAnswers : trace bookDoes (freshBook list cap) (callsOf (keptEvents list cap calls)) ≡ keptEvents list cap calls
+  pub keptBook : final bookDoes (freshBook list cap) (callsOf (keptEvents list cap calls)) ≡ final bookDoes (freshBook list cap) calls
   -- and so they do when they are moved
-  pub rearranged : Perm (movedUp (keptEvents list cap made)) (keptEvents list cap made)
+  pub rearranged : Perm (movedUp (keptEvents list cap calls)) (keptEvents list cap calls)
   pub sameAnswers :
-      trace bookDoes (freshBook list cap) (calls (movedUp (keptEvents list cap made))) ≡ movedUp (keptEvents list cap made)
+      trace bookDoes (freshBook list cap) (callsOf (movedUp (keptEvents list cap calls))) ≡ movedUp (keptEvents list cap calls)
   pub sameBook :
-      final bookDoes (freshBook list cap) (calls (movedUp (keptEvents list cap made))) ≡ final bookDoes (freshBook list cap) made
+      final bookDoes (freshBook list cap) (callsOf (movedUp (keptEvents list cap calls))) ≡ final bookDoes (freshBook list cap) calls
 
-pub book-moved : (list : List ℕ) (cap : ℕ) (made : List Call) → Moved list cap made
-book-moved list cap made =
+pub book-moved : (list : List ℕ) (cap : ℕ) (calls : List Call) → Moved list cap calls
+book-moved list cap calls =
     let b = freshBook list cap in
-    let c = final bookDoes b made in
-    let kept = keptEvents list cap made in
-    let run : Run b kept c = struck-run b made in
+    let c = final bookDoes b calls in
+    let kept = keptEvents list cap calls in
+    let run : Run b kept c = struck-run b calls in
     let rest : Rest kept c b kept = record { old = λ t h. absurd (true-or-false refl h); new = λ t h. refl } in
     let sorted = sort kept c (length kept) kept (omega arith) b rest run in
     record {

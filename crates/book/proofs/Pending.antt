@@ -14,7 +14,7 @@ use Rattle.exchange.specs.declared.Exchange.{Exchange}
 use Rattle.exchange.specs.declared.request.Request.{Request}
 use Rattle.exchange.specs.Exchange.{isFree, hasTicket, exchangeOf, asked}
 use Rattle.exchange.specs.Steps.{Step, openResult, respond, abandon, next}
-use Rattle.book.specs.Book.{left, replaced}
+use Rattle.book.specs.Book.{remaining, replaced}
 
 -- an exchange that has one ticket has no other
 one-ticket : (t u : ℕ) (x : Exchange) → (t ≡ u → ⊥) → hasTicket u x ≡ true → hasTicket t x ≡ false
@@ -44,11 +44,11 @@ next-other t u abandon xs apart = refl
 -- an exchange that has not the ticket
 module _ (t : ℕ) (x : Exchange) (not-its : hasTicket t x ≡ false) where
   -- stands before the others
-  skipped : (xs : List Exchange) → exchangeOf t (left x ++ xs) ≡ exchangeOf t xs
+  skipped : (xs : List Exchange) → exchangeOf t (remaining x ++ xs) ≡ exchangeOf t xs
   unfolding firstPlace
   skipped xs = either (isFree x) (λ e. rw e) (λ e. rw e (rw not-its))
 
-  kept-before : (f : Exchange) (xs : List Exchange) → replaced t f (left x ++ xs) ≡ left x ++ replaced t f xs
+  kept-before : (f : Exchange) (xs : List Exchange) → replaced t f (remaining x ++ xs) ≡ remaining x ++ replaced t f xs
   unfolding replaced
   kept-before f xs = either (isFree x) (λ e. rw e) (λ e. rw e (rw not-its))
 
@@ -91,7 +91,7 @@ module _ (t u : ℕ) (apart : t ≡ u → ⊥) (f : Exchange) (not-its : hasTick
       (λ k. rw (k, h, rest))))
 
 -- one exchange is left, or none
-left-short : (e : Exchange) → length (left e) ≤ 1
+left-short : (e : Exchange) → length (remaining e) ≤ 1
 left-short e = either (isFree e) (λ h. rw h (omega arith)) (λ h. rw h (omega arith))
 
 -- a change adds no exchange

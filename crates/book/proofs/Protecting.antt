@@ -10,11 +10,11 @@ use lib.Dec.{eqb}
 use Rattle.wire.proofs.Booleans.{either, true-or-false}
 use Rattle.exchange.specs.declared.Exchange.{Exchange}
 use Rattle.exchange.specs.Exchange.{isFree, isAsked, isOpened, exchangeOf, askedPhase, openedPhase}
-use Rattle.exchange.specs.Steps.{Step, openResult, respond, abandon, refusal, openAnswer, toOpen, answer}
+use Rattle.exchange.specs.Steps.{Step, openResult, respond, abandon, refusal, openAnswer, ofOpen, answer}
 use Rattle.gateway.specs.declared.Gateway.{Gateway}
-use Rattle.gateway.specs.Head.{statusOf, admitAnswer}
+use Rattle.gateway.specs.Registry.{statusOf, admitAnswer}
 use Rattle.gateway.specs.Gateway.{nextTicket}
-use Rattle.gateway.specs.Calls.{Call, admit, retire, onTicket, reporting, toAdmit, toStep, unprotectedStatus, gatewayDoes, admitNumber}
+use Rattle.gateway.specs.Calls.{Call, admit, retire, onTicket, reporting, ofAdmit, ofStep, unprotectedStatus, gatewayDoes, admitNumber}
 use Rattle.book.specs.History.{gatewayAfter}
 use Rattle.book.specs.OneCall.{Unprotected, isBeforeOpening}
 use Rattle.book.proofs.Numbers.{admit-number, step-number}
@@ -26,17 +26,17 @@ status-there n =
     (λ a. either (eqb n 9) (λ e. rw (a, e) (omega arith))
     (λ b. either (eqb n 14) (λ e. rw (a, b, e) (omega arith)) (λ e. rw (a, b, e) (omega arith))))
 
-refused-status : (n ticket : ℕ) (request : List ℕ) → (n ≡ 0 → ⊥) → 400 ≤ unprotectedStatus (toAdmit (admitAnswer n ticket request))
+refused-status : (n ticket : ℕ) (request : List ℕ) → (n ≡ 0 → ⊥) → 400 ≤ unprotectedStatus (ofAdmit (admitAnswer n ticket request))
 unfolding unprotectedStatus
 refused-status zero ticket request h = absurd (h refl)
 refused-status (suc n) ticket request h = status-there (suc n)
 
 failed-status : (n : ℕ) (e : Exchange) → refusal (openResult false n) e ≡ 0
-    → unprotectedStatus (toStep (answer (openResult false n) e)) ≡ 422
+    → unprotectedStatus (ofStep (answer (openResult false n) e)) ≡ 422
 unfolding unprotectedStatus answer
 failed-status n e z = rw z
 
-refused-opening : (n : ℕ) (success : Bool) → (n ≡ 0 → ⊥) → unprotectedStatus (toStep (toOpen (openAnswer n success))) ≡ 0
+refused-opening : (n : ℕ) (success : Bool) → (n ≡ 0 → ⊥) → unprotectedStatus (ofStep (ofOpen (openAnswer n success))) ≡ 0
 unfolding unprotectedStatus
 refused-opening zero success h = absurd (h refl)
 refused-opening (suc n) success h = refl
@@ -48,7 +48,7 @@ not-asked-refuses success n e other z =
     either (isFree e) (λ f. omega (arith, rw f at z)) (λ f. omega (arith, rw (f, other) at z))
 
 -- and nothing of it goes out
-not-asked-silent : (step : Step) (e : Exchange) → isAsked e ≡ false → unprotectedStatus (toStep (answer step e)) ≡ 0
+not-asked-silent : (step : Step) (e : Exchange) → isAsked e ≡ false → unprotectedStatus (ofStep (answer step e)) ≡ 0
 unfolding answer unprotectedStatus
 not-asked-silent (openResult success n) e o = refused-opening _ success (not-asked-refuses success n e o)
 not-asked-silent (respond enc nonce plain salt) e o = refl
@@ -72,7 +72,7 @@ unprotected =
       refusedAdmit = λ g request info h. refused-status (admitNumber request info g) (nextTicket g) request (λ z. h (admit-number (admitNumber request info g) (nextTicket g) request ∙ z));
       failedOpening = λ g ticket n z. failed-status n (exchangeOf ticket (g .table)) (sym (step-number (openResult false n) (exchangeOf ticket (g .table))) ∙ z);
       nothingElse = nothing-else;
-      afterOpening = λ list cap made ticket step o.
-          let e = exchangeOf ticket (gatewayAfter list cap made .table) in
+      afterOpening = λ list cap calls ticket step o.
+          let e = exchangeOf ticket (gatewayAfter list cap calls .table) in
           not-asked-silent step e (opened-not-asked e o);
     }

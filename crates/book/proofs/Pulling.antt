@@ -19,7 +19,7 @@ use Rattle.book.proofs.Swap.{swap}
 use Rattle.book.proofs.Runs.{Happens, after, Run}
 
 -- the last ticket does not fall
-later-ticket : (b : Book) (call : Call) → b .head .lastTicket ≤ given b call .state .head .lastTicket
+later-ticket : (b : Book) (call : Call) → b .registry .lastTicket ≤ given b call .state .registry .lastTicket
 later-ticket b (admit request info) = omega arith
 later-ticket b (retire id) = omega arith
 later-ticket b (onTicket t step) = omega arith
@@ -35,7 +35,7 @@ module _ (tickets : List ℕ) where
 
   -- calls on the tickets leave the head and the exchanges of the other tickets
   pub record Beside (b c : Book) : Type 0 where
-    pub head : c .head ≡ b .head
+    pub registry : c .registry ≡ b .registry
     pub others : (t : ℕ) → among tickets t ≡ false → exchangeOf t (c .pending) ≡ exchangeOf t (b .pending)
 
   -- by one call
@@ -44,7 +44,7 @@ module _ (tickets : List ℕ) where
   beside-call b (retire id) on = absurd (true-or-false on refl)
   beside-call b (onTicket u step) on =
       record {
-        head = refl;
+        registry = refl;
         others = λ t off.
             let apart : t ≡ u → ⊥ = λ p. true-or-false on (rw p at off) in
             exchange-beside t u apart (next step (exchangeOf u (b .pending))) (next-other t u step (b .pending) apart) (b .pending);
@@ -54,11 +54,11 @@ module _ (tickets : List ℕ) where
   -- by several calls
   beside-more : (b m c : Book) → Beside b m → Beside m c → Beside b c
   beside-more b m c r s =
-      record { head = s .head ∙ r .head; others = λ t off. s .others t off ∙ r .others t off }
+      record { registry = s .registry ∙ r .registry; others = λ t off. s .others t off ∙ r .others t off }
 
   -- the tickets were given before
   abbrev pub GivenBefore : Book → Type 0
-  GivenBefore b = (t : ℕ) → among tickets t ≡ true → t ≤ b .head .lastTicket
+  GivenBefore b = (t : ℕ) → among tickets t ≡ true → t ≤ b .registry .lastTicket
 
   -- another call, made behind calls on the tickets instead of before them
   record Passed (b c : Book) (k : Event) (es : List Event) : Type 0 where
@@ -77,7 +77,7 @@ module _ (tickets : List ℕ) where
     pass-one x es on rest b before h r =
         let s = swap tickets b before (k .call) (x .call) off on (h .accepted) (r .0 .accepted) in
         let side = beside-call b (x .call) on in
-        let p = rest (after b x) (λ t o. rw (side .head) (before t o))
+        let p = rest (after b x) (λ t o. rw (side .registry) (before t o))
         (record { accepted = s .firstAccepted; told = s .firstTold ∙ h .told })
         (rw (s .sameBook) at (r .1)) in
         record {
@@ -97,7 +97,7 @@ module _ (tickets : List ℕ) where
     pass-none : CanPass (itsCalls [])
     unfolding filtered
     pass-none b before h r =
-        record { between = b; run = refl; beside = record { head = refl; others = λ t o. refl }; happens = h; leads = r }
+        record { between = b; run = refl; beside = record { registry = refl; others = λ t o. refl }; happens = h; leads = r }
 
     pass : (es : List Event) → CanPass (itsCalls es)
     pass [] = pass-none
@@ -113,7 +113,7 @@ module _ (tickets : List ℕ) where
   pub pull : (b c : Book) (es : List Event) → GivenBefore b → Run b es c → Pulled b c es
   unfolding filtered
   pull b c [] before r =
-      record { between = b; first = refl; rest = r; beside = record { head = refl; others = λ t o. refl } }
+      record { between = b; first = refl; rest = r; beside = record { registry = refl; others = λ t o. refl } }
   pull b c (k ∷ es) before r =
       let p = pull (after b k) c es (λ t o. omega (arith, before t o, later-ticket b (k .call))) (r .1) in
       either

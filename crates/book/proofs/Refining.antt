@@ -14,13 +14,13 @@ use Rattle.exchange.specs.declared.Exchange.{Exchange}
 use Rattle.exchange.specs.Request.{keyIdOf, fieldsOf}
 use Rattle.exchange.specs.Exchange.{free, hasTicket, exchangeOf, asked}
 use Rattle.exchange.specs.Steps.{Step, next}
-use Rattle.keys.specs.Keys.{keyPlace}
+use Rattle.keys.specs.Keys.{placeOfKey}
 use Rattle.keys.specs.Stored.{keysOf}
 use Rattle.gateway.specs.declared.Gateway.{Gateway}
-use Rattle.gateway.specs.Head.{Head}
-use Rattle.gateway.specs.Gateway.{tableSize, headOf, pendingIn, freePlace, nextTicket, isFull, retiredGateway, withExchange, admitted as gatewayAdmitted}
+use Rattle.gateway.specs.Registry.{Registry}
+use Rattle.gateway.specs.Gateway.{tableSize, registryOf, pendingIn, freePlace, nextTicket, isFull, retiredGateway, withExchange, admitted as gatewayAdmitted}
 use Rattle.gateway.specs.Calls.{Call, admit, retire, onTicket, reporting, gatewayDoes, admitNumber as gatewayAdmitNumber, retireNumber as gatewayRetireNumber}
-use Rattle.book.specs.Book.{Book, setIsFull, admitted, keyRetired, moved, admitNumber, retireNumber, ticketNumber, bookDoes}
+use Rattle.book.specs.Book.{Book, setIsFull, admitted, keyRetired, bookStepped, admitNumber, retireNumber, ticketNumber, bookDoes}
 use Rattle.book.proofs.Passing.{passing-permuted, length-permuted}
 use Rattle.book.proofs.Table.{holding-pending, found-permuted, found-pending, full-alike, replaced-permuted, replaced-in-table, admitted-in-table}
 use Rattle.book.proofs.Accepting.{retire-accepted, Admitted, admit-accepted}
@@ -30,19 +30,19 @@ use Rattle.book.proofs.Sound.{Sound, ticket-bound, admitted-sound, reti
 -- they have the same head and, places aside, the same exchanges
 pub record Alike (g : Gateway) (b : Book) : Type 0 where
   pub sound : Sound b
-  pub head : headOf g ≡ b .head
+  pub registry : registryOf g ≡ b .registry
   pub places : length (g .table) ≡ tableSize
   pub pending : List·Permᴰ (pendingIn (g .table)) (b .pending)
 
 -- the parts of the head
-pub keys-alike : (g : Gateway) (b : Book) → Alike g b → keysOf (g .keys) ≡ b .head .keys
-keys-alike g b r = ap (λ (h : Head). h .keys) (r .head)
+pub keys-alike : (g : Gateway) (b : Book) → Alike g b → keysOf (g .keys) ≡ b .registry .keys
+keys-alike g b r = ap (λ (h : Registry). h .keys) (r .registry)
 
-cap-alike : (g : Gateway) (b : Book) → Alike g b → g .cap ≡ b .head .cap
-cap-alike g b r = ap (λ (h : Head). h .cap) (r .head)
+cap-alike : (g : Gateway) (b : Book) → Alike g b → g .cap ≡ b .registry .cap
+cap-alike g b r = ap (λ (h : Registry). h .cap) (r .registry)
 
-last-alike : (g : Gateway) (b : Book) → Alike g b → g .«last_ticket» .0 ≡ b .head .lastTicket
-last-alike g b r = ap (λ (h : Head). h .lastTicket) (r .head)
+last-alike : (g : Gateway) (b : Book) → Alike g b → g .«last_ticket» .0 ≡ b .registry .lastTicket
+last-alike g b r = ap (λ (h : Registry). h .lastTicket) (r .registry)
 
 -- what the calls ask of them
 full-told : (g : Gateway) (b : Book) → Alike g b → isFull (g .table) ≡ setIsFull b
@@ -53,12 +53,12 @@ found-told ticket g b r =
     sym (found-pending ticket (g .table))
     ∙ found-permuted ticket (r .pending) (rw (passing-permuted (hasTicket ticket) (r .pending)) (r .sound .once ticket))
 
-next-told : (g : Gateway) (b : Book) → Alike g b → nextTicket g ≡ b .head .lastTicket + 1
+next-told : (g : Gateway) (b : Book) → Alike g b → nextTicket g ≡ b .registry .lastTicket + 1
 next-told g b r = omega (arith, ticket-bound b (r .sound), last-alike g b r)
 
 admit-told : (request info : List ℕ) (g : Gateway) (b : Book) → Alike g b
     → gatewayAdmitNumber request info g ≡ admitNumber request info b
-admit-told request info g b r = rw (r .head, full-told g b r)
+admit-told request info g b r = rw (r .registry, full-told g b r)
 
 retire-told : (id : ℕ) (g : Gateway) (b : Book) → Alike g b → gatewayRetireNumber id g ≡ retireNumber id b
 retire-told id g b r = rw (keys-alike g b r)
@@ -66,7 +66,7 @@ retire-told id g b r = rw (keys-alike g b r)
 -- the answers
 pub same-answer : (g : Gateway) (b : Book) (call : Call) → Alike g b → gatewayDoes g call .answer ≡ bookDoes b call .answer
 unfolding gatewayDoes bookDoes
-same-answer g b (admit request info) r = rw (r .head, full-told g b r, next-told g b r)
+same-answer g b (admit request info) r = rw (r .registry, full-told g b r, next-told g b r)
 same-answer g b (retire id) r = rw (keys-alike g b r)
 same-answer g b (onTicket ticket step) r = rw (found-told ticket g b r)
 same-answer g b reporting r = rw (keys-alike g b r, last-alike g b r, length-permuted (r .pending))
@@ -74,22 +74,22 @@ same-answer g b reporting r = rw (keys-alike g b r, last-alike g b r, length-per
 -- the buffers
 pub same-buffer : (g : Gateway) (b : Book) (call : Call) → Alike g b → gatewayDoes g call .buffer ≡ bookDoes b call .buffer
 unfolding gatewayDoes bookDoes
-same-buffer g b (admit request info) r = rw (r .head, full-told g b r)
+same-buffer g b (admit request info) r = rw (r .registry, full-told g b r)
 same-buffer g b (retire id) r = refl
 same-buffer g b (onTicket ticket step) r = rw (found-told ticket g b r)
 same-buffer g b reporting r = refl
 
 -- an accepted admit keeps them alike
-admitted-alike : (request : List ℕ) (g : Gateway) (b : Book) → Alike g b → Admitted (b .head) (setIsFull b) request
+admitted-alike : (request : List ℕ) (g : Gateway) (b : Book) → Alike g b → Admitted (b .registry) (setIsFull b) request
     → Alike (gatewayAdmitted request g) (admitted request b)
 admitted-alike request g b r a =
-    let new = asked (b .head .lastTicket + 1) (fieldsOf request) in
+    let new = asked (b .registry .lastTicket + 1) (fieldsOf request) in
     let room = full-told g b r ∙ a .room in
     record {
       sound = admitted-sound request b (r .sound) a;
-      head =
+      registry =
           rw (
-            used-view (g .keys) (keyPlace (keyIdOf request) (keysOf (g .keys)))
+            used-view (g .keys) (placeOfKey (keyIdOf request) (keysOf (g .keys)))
                 (rw (keys-alike g b r) (a .inside)) (rw (keys-alike g b r) (omega (arith, a .below, r .sound .capBound))),
             keys-alike g b r,
             next-told g b r,
@@ -99,20 +99,20 @@ admitted-alike request g b r a =
       pending =
           rw (next-told g b r)
           (List·Permᴰ·trans
-          (admitted-in-table new (g .table) (freePlace (g .table)) (ne-eqb (b .head .lastTicket + 1) 0 (omega arith))
+          (admitted-in-table new (g .table) (freePlace (g .table)) (ne-eqb (b .registry .lastTicket + 1) 0 (omega arith))
           (place-is-free .inside (g .table) room) (place-is-free .wasFree (g .table) room))
           (Permᴰ·append-right (new ∷ []) (r .pending)));
     }
 
 -- an accepted retire does
-retired-alike : (id : ℕ) (g : Gateway) (b : Book) → Alike g b → keyPlace id (b .head .keys) < length (b .head .keys)
+retired-alike : (id : ℕ) (g : Gateway) (b : Book) → Alike g b → placeOfKey id (b .registry .keys) < length (b .registry .keys)
     → Alike (retiredGateway id g) (keyRetired id b)
 retired-alike id g b r inside =
     record {
       sound = retired-sound id b (r .sound) inside;
-      head =
+      registry =
           rw (
-            retired-view (g .keys) (keyPlace id (keysOf (g .keys))) (rw (keys-alike g b r) inside),
+            retired-view (g .keys) (placeOfKey id (keysOf (g .keys))) (rw (keys-alike g b r) inside),
             keys-alike g b r,
             last-alike g b r,
             cap-alike g b r,
@@ -124,12 +124,12 @@ retired-alike id g b r inside =
 -- an accepted call on a ticket does
 moved-alike : (ticket : ℕ) (step : Step) (g : Gateway) (b : Book) → Alike g b → ticketNumber ticket step b ≡ 0
     → Alike (withExchange (firstPlace (hasTicket ticket) (g .table)) (next step (exchangeOf ticket (b .pending))) g)
-    (moved ticket step b)
+    (bookStepped ticket step b)
 moved-alike ticket step g b r accepted =
     let new = next step (exchangeOf ticket (b .pending)) in
     record {
       sound = moved-sound ticket step b (r .sound) accepted;
-      head = r .head;
+      registry = r .registry;
       places = rw length-set (r .places);
       pending =
           rw (replaced-in-table ticket new (g .table)
@@ -150,7 +150,7 @@ step-alike : (n place : ℕ) (new old : Exchange) (g : Gateway) {b c : Book} →
 step-alike zero place new old g e accepted r = accepted refl
 step-alike (suc n) place new old g e accepted r =
     let same : set (g .table) place old ≡ g .table = rw e (set-getD (g .table) place free) in
-    record { sound = r .sound; head = r .head; places = rw same (r .places); pending = rw same (r .pending) }
+    record { sound = r .sound; registry = r .registry; places = rw same (r .places); pending = rw same (r .pending) }
 
 -- every call does
 pub alike-kept : (g : Gateway) (b : Book) (call : Call) → Alike g b → Alike (gatewayDoes g call .state) (bookDoes b call .state)
@@ -158,11 +158,11 @@ unfolding gatewayDoes bookDoes
 alike-kept g b (admit request info) r =
     rw (admit-told request info g b r)
     (unless-alike (admitNumber request info b)
-    (λ e. admitted-alike request g b r (admit-accepted (b .head) (setIsFull b) request (length info) e)) r)
+    (λ e. admitted-alike request g b r (admit-accepted (b .registry) (setIsFull b) request (length info) e)) r)
 alike-kept g b (retire id) r =
     rw (retire-told id g b r)
     (unless-alike (retireNumber id b)
-    (λ e. retired-alike id g b r (retire-accepted (b .head .keys) (keyPlace id (b .head .keys)) e)) r)
+    (λ e. retired-alike id g b r (retire-accepted (b .registry .keys) (placeOfKey id (b .registry .keys)) e)) r)
 alike-kept g b (onTicket ticket step) r =
     let found = exchangeOf ticket (b .pending) in
     rw (found-told ticket g b r)

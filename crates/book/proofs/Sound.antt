@@ -8,15 +8,15 @@ use native.Mathlib.Omega.{arith}
 use borrow.Author.Tests.{eqb-true, eqb-false, leb-true}
 use lib.Dec.{eqb, leb}
 use lib.ListN.{length, length-set, length-map}
-use Rattle.wire.proofs.Booleans.{either, and-right}
+use Rattle.wire.proofs.Booleans.{either, and-left, and-right}
 use Rattle.keylist.specs.Layout.{Configuration, mostConfigurations, good, parse}
 use Rattle.exchange.specs.Request.{keyIdOf, fieldsOf}
 use Rattle.exchange.specs.Exchange.{exchangeOf, asked}
 use Rattle.exchange.specs.Steps.{Step, next}
-use Rattle.keys.specs.Keys.{Key, keyPlace, keyAt, freshKey, retired}
-use Rattle.gateway.specs.Head.{capHolds, mostUses, refusedHead}
+use Rattle.keys.specs.Keys.{Key, placeOfKey, keyAt, freshKey, withRetirement}
+use Rattle.gateway.specs.Registry.{capHolds, mostUses}
 use Rattle.gateway.specs.Calls.{Call, admit, retire, onTicket, reporting}
-use Rattle.book.specs.Book.{Book, setIsFull, admitted, keyRetired, moved, admitNumber, retireNumber, ticketNumber, bookDoes}
+use Rattle.book.specs.Book.{Book, setIsFull, admitted, keyRetired, bookStepped, admitNumber, retireNumber, ticketNumber, bookDoes}
 use Rattle.book.specs.Counts.{sumOfCounts}
 use Rattle.book.proofs.Passing.{passing, passing-append}
 use Rattle.book.proofs.Table.{holding, holding-one, holding-other, holding-replaced, found-has}
@@ -28,28 +28,30 @@ use Rattle.book.proofs.KeyCounts.{ids, sum-bound, fresh-ids, fresh-coun
 
 -- what holds of every book that calls reach
 pub record Sound (b : Book) : Type 0 where
-  pub capBound : b .head .cap ≤ mostUses
-  pub keysBound : length (b .head .keys) ≤ mostConfigurations
-  pub withinCap : (place : ℕ) → keyAt (b .head .keys) place .count ≤ b .head .cap
-  pub distinct : Distinct (ids (b .head .keys))
-  pub lastTicket : b .head .lastTicket ≡ sumOfCounts (b .head .keys)
+  pub capLeast : 1 ≤ b .registry .cap
+  pub capBound : b .registry .cap ≤ mostUses
+  pub keysBound : length (b .registry .keys) ≤ mostConfigurations
+  pub withinCap : (place : ℕ) → keyAt (b .registry .keys) place .count ≤ b .registry .cap
+  pub distinct : Distinct (ids (b .registry .keys))
+  pub lastTicket : b .registry .lastTicket ≡ sumOfCounts (b .registry .keys)
   -- no ticket is pending twice, and none that is yet to be given
   pub once : (ticket : ℕ) → holding ticket (b .pending) ≤ 1
-  pub given : (ticket : ℕ) → b .head .lastTicket < ticket → holding ticket (b .pending) ≡ 0
+  pub given : (ticket : ℕ) → b .registry .lastTicket < ticket → holding ticket (b .pending) ≡ 0
 
 -- 16 keys of at most 1,000,000,000 uses each
-pub ticket-bound : (b : Book) → Sound b → b .head .lastTicket ≤ 16000000000
-ticket-bound b s = omega (arith, sum-bound (b .head .keys) (λ place. omega (arith, s .withinCap place)))
+pub ticket-bound : (b : Book) → Sound b → b .registry .lastTicket ≤ 16000000000
+ticket-bound b s = omega (arith, sum-bound (b .registry .keys) (λ place. omega (arith, s .withinCap place)))
 
 -- after an accepted admit
-pub admitted-sound : (request : List ℕ) (b : Book) → Sound b → Admitted (b .head) (setIsFull b) request → Sound (admitted request b)
+pub admitted-sound : (request : List ℕ) (b : Book) → Sound b → Admitted (b .registry) (setIsFull b) request → Sound (admitted request b)
 admitted-sound request b s a =
-    let place = keyPlace (keyIdOf request) (b .head .keys) in
-    let new = asked (b .head .lastTicket + 1) (fieldsOf request) in
+    let place = placeOfKey (keyIdOf request) (b .registry .keys) in
+    let new = asked (b .registry .lastTicket + 1) (fieldsOf request) in
     record {
+      capLeast = s .capLeast;
       capBound = s .capBound;
       keysBound = rw length-set (s .keysBound);
-      withinCap = used-within (b .head .cap) place (b .head .keys) (s .withinCap) (a .inside) (a .below);
+      withinCap = used-within (b .registry .cap) place (b .registry .keys) (s .withinCap) (a .inside) (a .below);
       distinct = rw used-ids (s .distinct);
       lastTicket = rw (used-sum, a .inside) (omega arith);
       once = λ ticket.
@@ -63,14 +65,15 @@ admitted-sound request b s a =
     }
 
 -- after an accepted retire
-pub retired-sound : (id : ℕ) (b : Book) → Sound b → keyPlace id (b .head .keys) < length (b .head .keys) → Sound (keyRetired id b)
+pub retired-sound : (id : ℕ) (b : Book) → Sound b → placeOfKey id (b .registry .keys) < length (b .registry .keys) → Sound (keyRetired id b)
 retired-sound id b s inside =
-    let keys = b .head .keys in
+    let keys = b .registry .keys in
     record {
+      capLeast = s .capLeast;
       capBound = s .capBound;
       keysBound = rw length-set (s .keysBound);
       withinCap = λ place.
-          rw (number-kept (λ (key : Key). key .count) retired (keyPlace id keys) place keys refl) (s .withinCap place);
+          rw (number-kept (λ (key : Key). key .count) withRetirement (placeOfKey id keys) place keys refl) (s .withinCap place);
       distinct = rw retired-ids (s .distinct);
       lastTicket = rw retired-sum (s .lastTicket);
       once = s .once;
@@ -78,13 +81,14 @@ retired-sound id b s inside =
     }
 
 -- after an accepted call on a ticket
-pub moved-sound : (ticket : ℕ) (step : Step) (b : Book) → Sound b → ticketNumber ticket step b ≡ 0 → Sound (moved ticket step b)
+pub moved-sound : (ticket : ℕ) (step : Step) (b : Book) → Sound b → ticketNumber ticket step b ≡ 0 → Sound (bookStepped ticket step b)
 moved-sound ticket step b s accepted =
     let e = exchangeOf ticket (b .pending) in
-    let fewer : (other : ℕ) → holding other (moved ticket step b .pending) ≤ holding other (b .pending) =
+    let fewer : (other : ℕ) → holding other (bookStepped ticket step b .pending) ≤ holding other (b .pending) =
     λ other. holding-replaced other ticket (next step e) (b .pending)
     (λ h. next-ticket step e h ∙ found-has ticket (b .pending) (accepted-pending step e accepted)) in
     record {
+      capLeast = s .capLeast;
       capBound = s .capBound;
       keysBound = s .keysBound;
       withinCap = s .withinCap;
@@ -99,19 +103,20 @@ pub sound-kept : (b : Book) (call : Call) → Sound b → Sound (bookDoes b call
 unfolding bookDoes
 sound-kept b (admit request info) s =
     unless-kept Sound (admitNumber request info b)
-    (λ e. admitted-sound request b s (admit-accepted (b .head) (setIsFull b) request (length info) e)) s
+    (λ e. admitted-sound request b s (admit-accepted (b .registry) (setIsFull b) request (length info) e)) s
 sound-kept b (retire id) s =
     unless-kept Sound (retireNumber id b)
-    (λ e. retired-sound id b s (retire-accepted (b .head .keys) (keyPlace id (b .head .keys)) e)) s
+    (λ e. retired-sound id b s (retire-accepted (b .registry .keys) (placeOfKey id (b .registry .keys)) e)) s
 sound-kept b (onTicket ticket step) s =
     unless-kept Sound (ticketNumber ticket step b) (moved-sound ticket step b s) s
 sound-kept b reporting s = s
 
 -- after setup, refused and accepted
-pub refused-sound : Sound (record { head = refusedHead; pending = [] })
+pub refused-sound : Sound (record { registry = record { cap = 1; lastTicket = 0; keys = [] }; pending = [] })
 unfolding sumOfCounts passing
 refused-sound =
     record {
+      capLeast = omega arith;
       capBound = omega arith;
       keysBound = omega arith;
       withinCap = λ place. omega arith;
@@ -122,10 +127,11 @@ refused-sound =
     }
 
 pub ready-sound : (list : List ℕ) (cap : ℕ) (cs : List Configuration) → parse list ≡ good cs → capHolds cap ≡ true
-    → Sound (record { head = record { cap = cap; lastTicket = 0; keys = map freshKey cs }; pending = [] })
+    → Sound (record { registry = record { cap = cap; lastTicket = 0; keys = map freshKey cs }; pending = [] })
 unfolding passing
 ready-sound list cap cs e h =
     record {
+      capLeast = leb-true 1 cap (and-left (leb 1 cap) (leb cap mostUses) h);
       capBound = leb-true cap mostUses (and-right (leb 1 cap) (leb cap mostUses) h);
       keysBound = rw length-map (parsed-view list cs e .1);
       withinCap = λ place. rw fresh-count (omega arith);

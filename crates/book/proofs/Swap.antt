@@ -14,8 +14,8 @@ use Rattle.exchange.specs.declared.Exchange.{Exchange}
 use Rattle.exchange.specs.Request.{keyIdOf, fieldsOf, requestRefusal}
 use Rattle.exchange.specs.Exchange.{hasTicket, exchangeOf, asked}
 use Rattle.exchange.specs.Steps.{Step, next}
-use Rattle.keys.specs.Keys.{keyPlace, keyRefusal}
-use Rattle.gateway.specs.Head.{Head, admitRefusal, _orElse_}
+use Rattle.keys.specs.Keys.{placeOfKey, keyRefusal}
+use Rattle.gateway.specs.Registry.{Registry, admitRefusal, _orElse_}
 use Rattle.gateway.specs.Gateway.{tableSize}
 use Rattle.gateway.specs.Calls.{Call, admit, retire, onTicket, reporting}
 use Rattle.book.specs.Book.{Book, replaced}
@@ -39,37 +39,37 @@ never-nine zero (suc m) e = omega arith
 never-nine (suc n) m e = omega arith
 
 -- an accepted admission found a place
-has-place : (head : Head) (full : Bool) (request : List ℕ) (room : ℕ) → admitRefusal head full request room ≡ 0 → full ≡ false
+has-place : (registry : Registry) (full : Bool) (request : List ℕ) (room : ℕ) → admitRefusal registry full request room ≡ 0 → full ≡ false
 unfolding admitRefusal
-has-place head true request room e =
-    let key = keyRefusal (head .cap) (head .keys) (keyPlace (keyIdOf request) (head .keys)) (fieldsOf request) in
+has-place registry true request room e =
+    let key = keyRefusal (registry .cap) (registry .keys) (placeOfKey (keyIdOf request) (registry .keys)) (fieldsOf request) in
     absurd (never-nine (requestRefusal request) key e)
-has-place head false request room e = refl
+has-place registry false request room e = refl
 
 -- so it finds one among fewer
-admitted-among-fewer : (head : Head) (many fewer : List Exchange) (request : List ℕ) (room : ℕ) → length fewer ≤ length many
-    → admitRefusal head (leb tableSize (length many)) request room ≡ 0
-    → admitRefusal head (leb tableSize (length fewer)) request room ≡ 0
-admitted-among-fewer head many fewer request room h e =
-    let place : leb tableSize (length many) ≡ false = has-place head (leb tableSize (length many)) request room e in
+admitted-among-fewer : (registry : Registry) (many fewer : List Exchange) (request : List ℕ) (room : ℕ) → length fewer ≤ length many
+    → admitRefusal registry (leb tableSize (length many)) request room ≡ 0
+    → admitRefusal registry (leb tableSize (length fewer)) request room ≡ 0
+admitted-among-fewer registry many fewer request room h e =
+    let place : leb tableSize (length many) ≡ false = has-place registry (leb tableSize (length many)) request room e in
     let same : leb tableSize (length fewer) ≡ false =
     lt-leb tableSize (length fewer) (omega (arith, leb-false tableSize (length many) place)) in
     rw same (rw place at e)
 
 -- the tickets: all were given before, and the first call is on none of them
-module _ (tickets : List ℕ) (b : Book) (given-before : (t : ℕ) → among tickets t ≡ true → t ≤ b .head .lastTicket) where
+module _ (tickets : List ℕ) (b : Book) (given-before : (t : ℕ) → among tickets t ≡ true → t ≤ b .registry .lastTicket) where
   -- behind an admission, a key retirement, or a call on another ticket
   swap-on : (first : Call) (t : ℕ) (step : Step) → among tickets t ≡ true → isOn tickets first ≡ false → numberOf b first ≡ 0
       → numberOf (given b first .state) (onTicket t step) ≡ 0 → Swapped b first (onTicket t step)
   swap-on (admit request info) t step on off e h =
-      let new = asked (b .head .lastTicket + 1) (fieldsOf request) in
+      let new = asked (b .registry .lastTicket + 1) (fieldsOf request) in
       let its = next step (exchangeOf t (b .pending)) in
       let other : hasTicket t new ≡ false =
-      asked-other t (b .head .lastTicket + 1) (fieldsOf request) (λ p. omega (arith, given-before t on)) in
+      asked-other t (b .registry .lastTicket + 1) (fieldsOf request) (λ p. omega (arith, given-before t on)) in
       let same : exchangeOf t (b .pending ++ new ∷ []) ≡ exchangeOf t (b .pending) = exchange-behind t new other (b .pending) in
       record {
         secondAccepted = rw same at h;
-        firstAccepted = admitted-among-fewer (b .head) (b .pending) (replaced t its (b .pending)) request (length info) (replaced-short t its (b .pending)) e;
+        firstAccepted = admitted-among-fewer (b .registry) (b .pending) (replaced t its (b .pending)) request (length info) (replaced-short t its (b .pending)) e;
         secondTold = rw same;
         firstTold = refl;
         sameBook = rw (same, kept-behind t new other its (b .pending));

@@ -15,7 +15,7 @@ use Rattle.wire.proofs.Booleans.{either, true-or-false, and-right, and-false}
 use Rattle.exchange.specs.declared.Exchange.{Exchange}
 use Rattle.exchange.specs.Exchange.{free, isFree, hasTicket, exchangeOf}
 use Rattle.gateway.specs.Gateway.{pendingIn, isFull}
-use Rattle.book.specs.Book.{left, replaced}
+use Rattle.book.specs.Book.{remaining, replaced}
 use Rattle.book.proofs.Passing.{passing, passing-append, passing-permuted, fronts-swapped, first-to-the-end}
 
 -- how many exchanges have the ticket
@@ -91,17 +91,17 @@ pub replaced-permuted : (ticket : ℕ) (new : Exchange) {xs ys : List Exchange} 
 unfolding replaced
 replaced-permuted ticket new List·Permᴰ·nil = List·Permᴰ·nil
 replaced-permuted ticket new (List·Permᴰ·cons {b = b} e d) =
-    rw e (Permᴰ·append-left (pick (hasTicket ticket b) (left new) (b ∷ [])) (replaced-permuted ticket new d))
+    rw e (Permᴰ·append-left (pick (hasTicket ticket b) (remaining new) (b ∷ [])) (replaced-permuted ticket new d))
 replaced-permuted ticket new (List·Permᴰ·swap {a′ = a} {b′ = b} {l = l} e f) =
     rw (e, f)
-    (fronts-swapped (pick (hasTicket ticket b) (left new) (b ∷ [])) (pick (hasTicket ticket a) (left new) (a ∷ []))
+    (fronts-swapped (pick (hasTicket ticket b) (remaining new) (b ∷ [])) (pick (hasTicket ticket a) (remaining new) (a ∷ []))
     (replaced ticket new l))
 replaced-permuted ticket new (List·Permᴰ·trans d f) =
     List·Permᴰ·trans (replaced-permuted ticket new d) (replaced-permuted ticket new f)
 
 -- no ticket is in the set more often than before: at one exchange, and in all
 holding-left : (other ticket : ℕ) (new e : Exchange) → (isFree new ≡ false → new .ticket .0 ≡ ticket)
-    → holding other (pick (hasTicket ticket e) (left new) (e ∷ [])) ≤ holding other (e ∷ [])
+    → holding other (pick (hasTicket ticket e) (remaining new) (e ∷ [])) ≤ holding other (e ∷ [])
 unfolding passing
 holding-left other ticket new e h =
     either (hasTicket ticket e)
@@ -117,7 +117,7 @@ pub holding-replaced : (other ticket : ℕ) (new : Exchange) (es : List Exchange
 unfolding replaced
 holding-replaced other ticket new [] h = le-refl (holding other [])
 holding-replaced other ticket new (e ∷ es) h =
-    rw (passing-append (hasTicket other) (pick (hasTicket ticket e) (left new) (e ∷ [])) (replaced ticket new es))
+    rw (passing-append (hasTicket other) (pick (hasTicket ticket e) (remaining new) (e ∷ [])) (replaced ticket new es))
     (omega (
       arith,
       passing-append (hasTicket other) (e ∷ []) es,

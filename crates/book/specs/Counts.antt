@@ -1,13 +1,14 @@
 -- Demand 2, "A key's count is the number of admissions it was given", over every list of calls; tickets; and that nothing wraps.
-use Prim.Native.Nat.{ℕ, zero, suc, _+_, _≤_, _<_}
+use Prim.Native.Nat.{ℕ, zero, suc, _+_, _*_, _≤_, _<_}
 use mathlib.Core.Path.{_≡_}
 use mathlib.Core.List.{List, [], _∷_, _++_}
 use lib.ListN.{length}
 use Rattle.wire.specs.Search.{among}
+use Rattle.keylist.specs.Layout.{mostConfigurations}
 use Rattle.keys.specs.Keys.{Key, keyAt}
 use Rattle.keys.specs.Stored.{oneMore}
-use Rattle.gateway.specs.Head.{Head, mostUses}
-use Rattle.gateway.specs.Gateway.{headOf, nextTicket}
+use Rattle.gateway.specs.Registry.{Registry, mostUses}
+use Rattle.gateway.specs.Gateway.{registryOf, nextTicket}
 use Rattle.gateway.specs.Calls.{Call}
 use Rattle.book.specs.History.{Event, filtered, ticketsOf, keyIdsOf, gatewayTrace, gatewayAfter}
 
@@ -31,27 +32,27 @@ countingFrom first zero = []
 countingFrom first (suc n) = first ∷ countingFrom (first + 1) n
 
 -- the head at the end of a history
-pub record Counts (head : Head) (events : List Event) : Type 0 where
-  pub admissions : (place : ℕ) → place < length (head .keys)
-      → keyAt (head .keys) place .count ≡ admissionsOfKey (keyAt (head .keys) place .id) events
+pub record Counts (registry : Registry) (events : List Event) : Type 0 where
+  pub admissions : (place : ℕ) → place < length (registry .keys)
+      → keyAt (registry .keys) place .count ≡ admissionsOfKey (keyAt (registry .keys) place .id) events
   -- "The count of a key lies between 0 and the cap."
-  pub withinCap : (place : ℕ) → place < length (head .keys) → keyAt (head .keys) place .count ≤ head .cap
-  pub capBound : head .cap ≤ mostUses
+  pub withinCap : (place : ℕ) → place < length (registry .keys) → keyAt (registry .keys) place .count ≤ registry .cap
+  pub capBound : (1 ≤ registry .cap) × (registry .cap ≤ mostUses)
   -- "the last one equals the sum of all use counts, so is at most 16,000,000,000"
-  pub lastTicket : head .lastTicket ≡ sumOfCounts (head .keys)
-  pub lastTicketBound : head .lastTicket ≤ 16000000000
+  pub lastTicket : registry .lastTicket ≡ sumOfCounts (registry .keys)
+  pub lastTicketBound : registry .lastTicket ≤ mostConfigurations * mostUses
   -- "the next ticket is given (1, 2, 3 and on)"; so none is given twice
-  pub tickets : ticketsGiven events ≡ countingFrom 1 (head .lastTicket)
+  pub tickets : ticketsGiven events ≡ countingFrom 1 (registry .lastTicket)
 
 abbrev pub CountsHold : Type 0
 CountsHold =
-    (list : List ℕ) (cap : ℕ) (made : List Call) → Counts (headOf (gatewayAfter list cap made)) (gatewayTrace list cap made)
+    (list : List ℕ) (cap : ℕ) (calls : List Call) → Counts (registryOf (gatewayAfter list cap calls)) (gatewayTrace list cap calls)
 
 -- no ticket and no count is the largest of its width, so that the next one is one more
 abbrev pub NothingWraps : Type 0
 NothingWraps =
-    (list : List ℕ) (cap : ℕ) (made : List Call)
-    → (nextTicket (gatewayAfter list cap made) ≡ headOf (gatewayAfter list cap made) .lastTicket + 1)
-    × ((place : ℕ) → place < length (headOf (gatewayAfter list cap made) .keys)
-    → oneMore 32 (keyAt (headOf (gatewayAfter list cap made) .keys) place .count)
-    ≡ keyAt (headOf (gatewayAfter list cap made) .keys) place .count + 1)
+    (list : List ℕ) (cap : ℕ) (calls : List Call)
+    → (nextTicket (gatewayAfter list cap calls) ≡ registryOf (gatewayAfter list cap calls) .lastTicket + 1)
+    × ((place : ℕ) → place < length (registryOf (gatewayAfter list cap calls) .keys)
+    → oneMore 32 (keyAt (registryOf (gatewayAfter list cap calls) .keys) place .count)
+    ≡ keyAt (registryOf (gatewayAfter list cap calls) .keys) place .count + 1)

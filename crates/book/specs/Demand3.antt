@@ -5,7 +5,7 @@ use mathlib.Core.Path.{_≡_}
 use mathlib.Core.List.{List, [], _∷_, _++_, map, Perm}
 use Rattle.wire.specs.Tests.{_and_}
 use Rattle.wire.specs.Search.{among}
-use Rattle.gateway.specs.Gateway.{headOf, pendingIn}
+use Rattle.gateway.specs.Gateway.{registryOf, pendingIn}
 use Rattle.gateway.specs.Calls.{Call, admit, retire, onTicket, reporting, Answer}
 use Rattle.book.specs.Book.{Book, freshBook, bookDoes}
 use Rattle.book.specs.History.{Event, trace, final, filtered, gatewayTrace, gatewayAfter, isAccepted, ticketsOf}
@@ -56,31 +56,31 @@ abbrev pub movedList : List ℕ → ℕ → List Call → List Event
 movedList list cap calls = movedUp (struck (gatewayTrace list cap calls))
 
 -- its calls with their arguments, run on the book
-abbrev pub calls : List Event → List Call
-calls events = map (λ (e : Event). e .call) events
+abbrev pub callsOf : List Event → List Call
+callsOf events = map (λ (e : Event). e .call) events
 
 abbrev pub bookAfter : List ℕ → ℕ → List Call → Book
 bookAfter list cap calls = final bookDoes (freshBook list cap) calls
 
-pub record Demand3 (list : List ℕ) (cap : ℕ) (made : List Call) : Type 0 where
+pub record Demand3 (list : List ℕ) (cap : ℕ) (calls : List Call) : Type 0 where
   -- the moved list has the calls of the struck one, each once
-  pub rearranged : Perm (movedList list cap made) (struck (gatewayTrace list cap made))
+  pub rearranged : Perm (movedList list cap calls) (struck (gatewayTrace list cap calls))
   -- "Every call gets there the answer it had and leaves the same bytes in its buffer"
-  pub sameAnswers : trace bookDoes (freshBook list cap) (calls (movedList list cap made)) ≡ movedList list cap made
+  pub sameAnswers : trace bookDoes (freshBook list cap) (callsOf (movedList list cap calls)) ≡ movedList list cap calls
   -- "the same count and retirement for every key, the same last ticket", and the same cap, ids, KEMs and pairs
-  pub sameHead : headOf (gatewayAfter list cap made) ≡ bookAfter list cap (calls (movedList list cap made)) .head
+  pub sameRegistry : registryOf (gatewayAfter list cap calls) ≡ bookAfter list cap (callsOf (movedList list cap calls)) .registry
   -- "and the same set of pending exchanges, table places aside"
-  pub samePending : Perm (pendingIn (gatewayAfter list cap made .table)) (bookAfter list cap (calls (movedList list cap made)) .pending)
+  pub samePending : Perm (pendingIn (gatewayAfter list cap calls .table)) (bookAfter list cap (callsOf (movedList list cap calls)) .pending)
 
 -- for every list of calls
 abbrev pub Demand3Holds : Type 0
-Demand3Holds = (list : List ℕ) (cap : ℕ) (made : List Call) → Demand3 list cap made
+Demand3Holds = (list : List ℕ) (cap : ℕ) (calls : List Call) → Demand3 list cap calls
 
 -- Refinement: with no call struck or moved, gateway and book give the same answers and bytes, and end alike.
-pub record Refinement (list : List ℕ) (cap : ℕ) (made : List Call) : Type 0 where
-  pub sameAnswers : gatewayTrace list cap made ≡ trace bookDoes (freshBook list cap) made
-  pub sameHead : headOf (gatewayAfter list cap made) ≡ bookAfter list cap made .head
-  pub samePending : Perm (pendingIn (gatewayAfter list cap made .table)) (bookAfter list cap made .pending)
+pub record Refinement (list : List ℕ) (cap : ℕ) (calls : List Call) : Type 0 where
+  pub sameAnswers : gatewayTrace list cap calls ≡ trace bookDoes (freshBook list cap) calls
+  pub sameRegistry : registryOf (gatewayAfter list cap calls) ≡ bookAfter list cap calls .registry
+  pub samePending : Perm (pendingIn (gatewayAfter list cap calls .table)) (bookAfter list cap calls .pending)
 
 abbrev pub RefinementHolds : Type 0
-RefinementHolds = (list : List ℕ) (cap : ℕ) (made : List Call) → Refinement list cap made
+RefinementHolds = (list : List ℕ) (cap : ℕ) (calls : List Call) → Refinement list cap calls

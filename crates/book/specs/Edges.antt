@@ -9,12 +9,12 @@ use Rattle.keylist.specs.Edges.{edgeList, hex, ListEdges}
 use Rattle.exchange.specs.Steps.{openResult, respond}
 use Rattle.keys.specs.Keys.{Key}
 use Rattle.gateway.specs.declared.AdmitAnswer.{AdmitAnswer}
-use Rattle.gateway.specs.Gateway.{headOf, pendingIn}
-use Rattle.gateway.specs.Calls.{Call, admit, retire, onTicket, reporting, number, toAdmit}
+use Rattle.gateway.specs.Gateway.{registryOf, pendingIn}
+use Rattle.gateway.specs.Calls.{Call, admit, retire, onTicket, reporting, number, ofAdmit}
 use Rattle.book.specs.History.{Event, trace, gatewayTrace, gatewayAfter}
 use Rattle.book.specs.Counts.{ticketsGiven}
 use Rattle.book.specs.Book.{freshBook, bookDoes}
-use Rattle.book.specs.Demand3.{movedList, calls, bookAfter}
+use Rattle.book.specs.Demand3.{movedList, callsOf, bookAfter}
 
 -- a request that names key 7, and so many bytes of enc and ciphertext behind its head
 abbrev pub request : ℕ → ℕ → ℕ → ℕ → List ℕ
@@ -61,7 +61,7 @@ pub record GatewayEdges : Type 0 where
       ≡ record {
         call = asking goodRequest;
         answer =
-            toAdmit (AdmitAnswer.Admitted (record {
+            ofAdmit (AdmitAnswer.Admitted (record {
               ticket = record { 0 = 1 };
               «key_id» = record { 0 = 7 };
               kdf = 1;
@@ -79,8 +79,8 @@ pub record GatewayEdges : Type 0 where
   -- cap 2: tickets 1 and 2, the third 8; at the end count 2, last ticket 2, none pending
   pub capTwo : numbers turnedRound ≡ 0 ∷ 0 ∷ 8 ∷ 0 ∷ 0 ∷ 0 ∷ 0 ∷ []
   pub tickets : ticketsGiven (gatewayTrace edgeList 2 turnedRound) ≡ 1 ∷ 2 ∷ []
-  pub count : map (λ (key : Key). key .count) (headOf (gatewayAfter edgeList 2 turnedRound) .keys) ≡ 2 ∷ []
-  pub lastTicket : headOf (gatewayAfter edgeList 2 turnedRound) .lastTicket ≡ 2
+  pub count : map (λ (key : Key). key .count) (registryOf (gatewayAfter edgeList 2 turnedRound) .keys) ≡ 2 ∷ []
+  pub lastTicket : registryOf (gatewayAfter edgeList 2 turnedRound) .lastTicket ≡ 2
   pub nonePending : pendingIn (gatewayAfter edgeList 2 turnedRound .table) ≡ []
   -- n one too large: 13, still asked; respond before opening: 12; the right n; after closing 11; ticket 0: 11
   pub openLength :
@@ -105,7 +105,7 @@ example =
 pub record MovedExample : Type 0 where
   pub numbers : numbers example ≡ 0 ∷ 0 ∷ 0 ∷ 0 ∷ 0 ∷ 0 ∷ 0 ∷ 7 ∷ 0 ∷ []
   pub order :
-      calls (movedList edgeList 2 example)
+      callsOf (movedList edgeList 2 example)
       ≡ asking goodRequest
       ∷ opening 1 0
       ∷ responding 1
@@ -115,6 +115,6 @@ pub record MovedExample : Type 0 where
       ∷ retire 7
       ∷ []
   pub sameAnswers :
-      trace bookDoes (freshBook edgeList 2) (calls (movedList edgeList 2 example)) ≡ movedList edgeList 2 example
-  pub sameHead : headOf (gatewayAfter edgeList 2 example) ≡ bookAfter edgeList 2 (calls (movedList edgeList 2 example)) .head
-  pub nonePending : bookAfter edgeList 2 (calls (movedList edgeList 2 example)) .pending ≡ []
+      trace bookDoes (freshBook edgeList 2) (callsOf (movedList edgeList 2 example)) ≡ movedList edgeList 2 example
+  pub sameRegistry : registryOf (gatewayAfter edgeList 2 example) ≡ bookAfter edgeList 2 (callsOf (movedList edgeList 2 example)) .registry
+  pub nonePending : bookAfter edgeList 2 (callsOf (movedList edgeList 2 example)) .pending ≡ []

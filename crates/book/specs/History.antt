@@ -9,7 +9,7 @@ use Rattle.gateway.specs.declared.Gateway.{Gateway}
 use Rattle.gateway.specs.declared.AdmitAnswer.{AdmitAnswer}
 use Rattle.gateway.specs.declared.admission.Admission.{Admission}
 use Rattle.gateway.specs.Gateway.{freshGateway}
-use Rattle.gateway.specs.Calls.{Call, Answer, Done, number, toAdmit, toRetire, toStep, toReport, gatewayDoes}
+use Rattle.gateway.specs.Calls.{Call, Answer, Done, number, ofAdmit, ofRetire, ofStep, ofReport, gatewayDoes}
 
 -- a call, its answer, and its buffer's bytes after it
 pub record Event : Type 0 where
@@ -36,10 +36,10 @@ filtered test (e ∷ es) = pick (test e) (e ∷ filtered test es) (filtered test
 
 -- from the gateway that setup handed back, after a refused setup too
 abbrev pub gatewayTrace : List ℕ → ℕ → List Call → List Event
-gatewayTrace list cap calls = trace gatewayDoes (freshGateway (parse list) cap) calls
+gatewayTrace list cap calls = trace gatewayDoes (freshGateway list cap) calls
 
 abbrev pub gatewayAfter : List ℕ → ℕ → List Call → Gateway
-gatewayAfter list cap calls = final gatewayDoes (freshGateway (parse list) cap) calls
+gatewayAfter list cap calls = final gatewayDoes (freshGateway list cap) calls
 
 -- answered without a refusal number
 abbrev pub isAccepted : Event → Bool
@@ -47,11 +47,11 @@ isAccepted e = eqb (number (e .answer)) 0
 
 -- the admission that an answer gives; none where it is not that of an accepted admit
 unfoldable pub admissionsOf : Answer → List Admission
-admissionsOf (toAdmit (AdmitAnswer.Admitted a)) = a ∷ []
-admissionsOf (toAdmit (AdmitAnswer.Refused r)) = []
-admissionsOf (toRetire r) = []
-admissionsOf (toStep r) = []
-admissionsOf (toReport r) = []
+admissionsOf (ofAdmit (AdmitAnswer.Admitted a)) = a ∷ []
+admissionsOf (ofAdmit (AdmitAnswer.Refused r)) = []
+admissionsOf (ofRetire r) = []
+admissionsOf (ofStep r) = []
+admissionsOf (ofReport r) = []
 
 -- its ticket and its key id
 abbrev pub ticketsOf : Answer → List ℕ

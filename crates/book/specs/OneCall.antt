@@ -15,7 +15,7 @@ use Rattle.exchange.specs.Steps.{Step, openResult, respond, abandon}
 use Rattle.keys.specs.Keys.{keyAt}
 use Rattle.keys.specs.Stored.{noPair}
 use Rattle.gateway.specs.declared.Gateway.{Gateway}
-use Rattle.gateway.specs.Gateway.{headOf, freePlace, isFull}
+use Rattle.gateway.specs.Gateway.{registryOf, freePlace, isFull}
 use Rattle.gateway.specs.Calls.{Call, admit, retire, onTicket, reporting, number, unprotectedStatus, gatewayDoes}
 use Rattle.book.specs.History.{gatewayAfter}
 
@@ -42,30 +42,30 @@ pub record WellFormed (request : List ℕ) : Type 0 where
   pub short : length request ≤ longestRequest
 
 -- an element of a list
-abbrev pub Holds : {A : Type 0} → A → List A → A → Type 0
-Holds blank xs x = (place : ℕ) × (place < length xs) × (getD xs place blank ≡ x)
+abbrev pub IsElement : {A : Type 0} → A → List A → A → Type 0
+IsElement blank xs x = (place : ℕ) × (place < length xs) × (getD xs place blank ≡ x)
 
 pub record Admissible (g : Gateway) (request info : List ℕ) : Type 0 where
   pub wellFormed : WellFormed request
   -- the key that it names
   pub place : ℕ
-  pub isKey : place < length (headOf g .keys)
-  pub named : keyAt (headOf g .keys) place .id ≡ keyIdOf request
-  pub live : keyAt (headOf g .keys) place .retired ≡ false
-  pub kem : keyAt (headOf g .keys) place .kem ≡ kemOf request
+  pub isKey : place < length (registryOf g .keys)
+  pub named : keyAt (registryOf g .keys) place .id ≡ keyIdOf request
+  pub live : keyAt (registryOf g .keys) place .retired ≡ false
+  pub kem : keyAt (registryOf g .keys) place .kem ≡ kemOf request
   pub kdfKnown : knownKdf (kdfOf request) ≡ true
   pub aeadKnown : knownAead (aeadOf request) ≡ true
-  pub pairOffered : Holds noPair (keyAt (headOf g .keys) place .pairs) (record { kdf = kdfOf request; aead = aeadOf request })
-  pub uses : keyAt (headOf g .keys) place .count < headOf g .cap
+  pub pairOffered : IsElement noPair (keyAt (registryOf g .keys) place .pairs) (record { kdf = kdfOf request; aead = aeadOf request })
+  pub uses : keyAt (registryOf g .keys) place .count < registryOf g .cap
   pub freeTable : (p : ℕ) × (p < length (g .table)) × (isFree (getD (g .table) p free) ≡ true)
   pub room : infoLength ≤ length info
 
 -- for every gateway that calls reached
 abbrev pub AdmissionExactly : Type 0
 AdmissionExactly =
-    (list : List ℕ) (cap : ℕ) (made : List Call) (request info : List ℕ)
-    → (number (gatewayDoes (gatewayAfter list cap made) (admit request info) .answer) ≡ 0)
-    ↔ Admissible (gatewayAfter list cap made) request info
+    (list : List ℕ) (cap : ℕ) (calls : List Call) (request info : List ℕ)
+    → (number (gatewayDoes (gatewayAfter list cap calls) (admit request info) .answer) ≡ 0)
+    ↔ Admissible (gatewayAfter list cap calls) request info
 
 -- the calls whose answer may go out unprotected: admit, and a call on an exchange that is not opened yet
 abbrev pub isBeforeOpening : Gateway → Call → Bool
@@ -83,9 +83,9 @@ pub record Unprotected : Type 0 where
   pub nothingElse : (g : Gateway) (call : Call) → isBeforeOpening g call ≡ false
       → unprotectedStatus (gatewayDoes g call .answer) ≡ 0
   -- over every history: no call on an opened exchange
-  pub afterOpening : (list : List ℕ) (cap : ℕ) (made : List Call) (ticket : ℕ) (step : Step)
-      → isOpened (exchangeOf ticket (gatewayAfter list cap made .table)) ≡ true
-      → unprotectedStatus (gatewayDoes (gatewayAfter list cap made) (onTicket ticket step) .answer) ≡ 0
+  pub afterOpening : (list : List ℕ) (cap : ℕ) (calls : List Call) (ticket : ℕ) (step : Step)
+      → isOpened (exchangeOf ticket (gatewayAfter list cap calls .table)) ≡ true
+      → unprotectedStatus (gatewayDoes (gatewayAfter list cap calls) (onTicket ticket step) .answer) ≡ 0
 
 -- 01's open point: the place of a new exchange was free, and every other place keeps what it had
 pub record PlaceIsFree : Type 0 where

@@ -25,18 +25,19 @@ pub data Step : Type 0 where
 
 -- the lengths that respond asks for
 abbrev pub lengthsHold : ℕ → ℕ → ℕ → Exchange → Bool
-lengthsHold enc nonce plain e = hasEnc enc e and hasNonce nonce e and leb plain longestPlain
+lengthsHold encSize nonceSize plain e = hasEnc encSize e and hasNonce nonceSize e and leb plain longestPlain
 
--- 01, "Order", ticket calls: 11, 12, 13, 14; 0: no refusal. Respond, of the lengths of enc, nonce, plain response and salt buffer:
+-- 01, "Order", ticket calls, for respond: 11, 12, 13, 14; 0: no refusal. It goes by the lengths of enc, nonce, plain response and
+-- salt buffer.
 unfoldable pub respondRefusal : ℕ → ℕ → ℕ → ℕ → Exchange → ℕ
-respondRefusal enc nonce plain room e =
+respondRefusal encSize nonceSize plain room e =
     11 when isFree e otherwise
     12 when not (isOpened e) otherwise
-    13 when not (lengthsHold enc nonce plain e) otherwise
-    14 when ltb room (enc + nonce) otherwise
+    13 when not (lengthsHold encSize nonceSize plain e) otherwise
+    14 when ltb room (encSize + nonceSize) otherwise
     0
 
--- of each call
+-- 01, "Order", ticket calls: 11, 12, 13, 14
 unfoldable pub refusal : Step → Exchange → ℕ
 refusal (openResult success n) e =
     11 when isFree e otherwise
@@ -77,15 +78,15 @@ abandonAnswer (suc n) = AbandonAnswer.Refused (refused (suc n))
 
 -- an answer of one of the three
 pub data StepAnswer : Type 0 where
-  toOpen : OpenAnswer → StepAnswer
-  toRespond : RespondAnswer → StepAnswer
-  toAbandon : AbandonAnswer → StepAnswer
+  ofOpen : OpenAnswer → StepAnswer
+  ofRespond : RespondAnswer → StepAnswer
+  ofAbandon : AbandonAnswer → StepAnswer
 
 unfoldable pub answer : Step → Exchange → StepAnswer
-answer (openResult success n) e = toOpen (openAnswer (refusal (openResult success n) e) success)
+answer (openResult success n) e = ofOpen (openAnswer (refusal (openResult success n) e) success)
 answer (respond enc nonce plain salt) e =
-    toRespond (respondAnswer (refusal (respond enc nonce plain salt) e) (length nonce) plain)
-answer abandon e = toAbandon (abandonAnswer (refusal abandon e))
+    ofRespond (respondAnswer (refusal (respond enc nonce plain salt) e) (length nonce) plain)
+answer abandon e = ofAbandon (abandonAnswer (refusal abandon e))
 
 -- the salt buffer after the call: enc, then nonce, at its front; the other calls lend no buffer
 unfoldable pub buffer : Step → Exchange → List ℕ

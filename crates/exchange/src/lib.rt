@@ -2,7 +2,7 @@
 // back in its next state, with the answer.
 ghost use mathlib.Core.Path.{_≡_};
 ghost use lib.ListN.{length};
-ghost use Rattle.exchange.specs.Exchange.{free, isFree, hasTicket, asked, opened, hasOpenedLength};
+ghost use Rattle.exchange.specs.Exchange.{free, isFree, asked, opened, hasOpenedLength};
 ghost use Rattle.exchange.specs.Steps.{openResult, respond, abandon, refusal, after, openAnswer, respondAnswer, abandonAnswer, buffer, respondRefusal, lengthsHold};
 use crate::request::Request;
 use algorithms::Aead;
@@ -109,16 +109,6 @@ impl Exchange {
         ensures { λ r. ⌜ r ≡ isFree self ⌝ }
     {
         self.ticket.0 == 0
-    }
-
-    // The exchange is pending and has this ticket.
-    pub fn has_ticket(self, ticket: Ticket) -> bool
-        ensures { λ r. ⌜ r ≡ hasTicket (ticket .0) self ⌝ }
-    {
-        if self.ticket.0 == 0 {
-            return false;
-        }
-        self.ticket.0 == ticket.0
     }
 
     // Open result: opened where the host could open n bytes, closed where it failed.

@@ -3,7 +3,7 @@
 use mathlib.Core.Path.{_≡_, refl}
 use Prim.Native.Nat.{ℕ, zero, suc}
 use native.Mathlib.Omega.{arith}
-use Rattle.gateway.specs.Head.{_orElse_}
+use Rattle.gateway.specs.Registry.{_orElse_}
 
 -- a first number other than 0 decides
 pub first-number : (a b : ℕ) → (a ≡ 0 → ⊥) → (a orElse b) ≡ a

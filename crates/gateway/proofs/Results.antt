@@ -22,53 +22,49 @@ use Rattle.exchange.specs.Request.{requestRefusal, fieldsOf, noFields, parsed, 
 use Rattle.exchange.specs.Exchange.{free, isFree, asked}
 use Rattle.exchange.proofs.Requests.{accepted-request, info-of}
 use Rattle.keys.specs.declared.Keys.{Keys}
-use Rattle.keys.specs.Keys.{Key, keyPlace, keyRefusal, retireRefusal}
+use Rattle.keys.specs.Keys.{Key, placeOfKey, keyRefusal, retireRefusal}
 use Rattle.keys.specs.Stored.{keysOf, usedState, retiredState, changedState}
 use Rattle.gateway.specs.declared.Gateway.{Gateway}
 use Rattle.gateway.specs.declared.admission.Admission.{Admission}
-use Rattle.gateway.specs.declared.admission.Rejection.{Rejection}
+use Rattle.gateway.specs.declared.admission.AdmitRefusal.{AdmitRefusal}
 use Rattle.gateway.specs.declared.AdmitAnswer.{AdmitAnswer}
 use Rattle.gateway.specs.declared.RetireAnswer.{RetireAnswer}
-use Rattle.gateway.specs.Head.{_orElse_, admitRefusal, rejection, admission, admitAnswer, retireAnswer}
+use Rattle.gateway.specs.Registry.{_orElse_, roomRefusal, admitRefusal, refusalOfAdmit, admission, admitAnswer, retireAnswer}
 use Rattle.gateway.specs.Gateway.{tableSize, isFull, freePlace, nextTicket, admitted, retiredGateway}
 use Rattle.gateway.proofs.Deciding.{none-of-both}
-use Rattle.gateway.specs.Calls.{admit, retire, toAdmit, toRetire, gatewayDoes, admitNumber, retireNumber}
+use Rattle.gateway.specs.Calls.{admit, retire, ofAdmit, ofRetire, gatewayDoes, admitNumber, retireNumber}
 
 retire-refused : (n : ℕ) → (n ≡ 0 → ⊥) → RetireAnswer.Refused (refused n) ≡ retireAnswer n
 retire-refused zero h = absurd (h refl)
 retire-refused (suc n) h = refl
 
-admit-refused : (n ticket : ℕ) (request : List ℕ) → (n ≡ 0 → ⊥) → AdmitAnswer.Refused (rejection n) ≡ admitAnswer n ticket request
+admit-refused : (n ticket : ℕ) (request : List ℕ) → (n ≡ 0 → ⊥) → AdmitAnswer.Refused (refusalOfAdmit n) ≡ admitAnswer n ticket request
 admit-refused zero ticket request h = absurd (h refl)
 admit-refused (suc n) ticket request h = refl
 
 -- retire, by the place and the number that it finds
-module _ (g : Gateway) (id place number : ℕ) (p : place ≡ keyPlace id (keysOf (g .keys)))
+module _ (g : Gateway) (id place number : ℕ) (p : place ≡ placeOfKey id (keysOf (g .keys)))
     (n : number ≡ retireRefusal (keysOf (g .keys)) place) where
   is-number : number ≡ retireNumber id g
   is-number = n ∙ ap (retireRefusal (keysOf (g .keys))) p
 
   pub not-retired : (r : Refusal) → r ≡ refused number → (number ≡ 0 → ⊥)
-      → (g ≡ gatewayDoes g (retire id) .state) × (toRetire (RetireAnswer.Refused r) ≡ gatewayDoes g (retire id) .answer)
+      → (g ≡ gatewayDoes g (retire id) .state) × (ofRetire (RetireAnswer.Refused r) ≡ gatewayDoes g (retire id) .answer)
   unfolding gatewayDoes
-  not-retired r e h = rw (← is-number, e) (unless-refused number (retiredGateway id g) g h, ap toRetire (retire-refused number h))
+  not-retired r e h = rw (← is-number, e) (unless-refused number (retiredGateway id g) g h, ap ofRetire (retire-refused number h))
 
   pub is-retired : (keys : Keys) → keys ≡ changedState retiredState place (g .keys) → number ≡ 0
       → (record { «last_ticket» = g .«last_ticket»; cap = g .cap; keys = keys; table = g .table } ≡ gatewayDoes g (retire id) .state)
-      × (toRetire RetireAnswer.Retired ≡ gatewayDoes g (retire id) .answer)
+      × (ofRetire RetireAnswer.Retired ≡ gatewayDoes g (retire id) .answer)
   unfolding gatewayDoes
   is-retired keys k z = rw (← is-number, z, k, p) (refl, refl)
 
 -- the fields of a request that is refused do not matter
 fields-only-accepted : (q cap : ℕ) (keys : List Key) (f n : Request) (rest : ℕ)
-    → (q orElse keyRefusal cap keys (keyPlace (unlessRefused q f n .«key_id» .0) keys) (unlessRefused q f n) orElse rest)
-    ≡ (q orElse keyRefusal cap keys (keyPlace (f .«key_id» .0) keys) f orElse rest)
+    → (q orElse keyRefusal cap keys (placeOfKey (unlessRefused q f n .«key_id» .0) keys) (unlessRefused q f n) orElse rest)
+    ≡ (q orElse keyRefusal cap keys (placeOfKey (f .«key_id» .0) keys) f orElse rest)
 fields-only-accepted zero cap keys f n rest = refl
 fields-only-accepted (suc q) cap keys f n rest = refl
-
--- the last two refusals
-abbrev lastNumber : ℕ → ℕ → ℕ
-lastNumber place room = 9 when leb tableSize place otherwise 14 when ltb room infoLength otherwise 0
 
 -- info at the front of its buffer
 pub info-written : (request info : List ℕ) → headLength ≤ length request → infoLength ≤ length info
@@ -86,11 +82,11 @@ pub record Decided (g : Gateway) (request info : List ℕ) : Type 0 where
   pub place : ℕ
   pub number : ℕ
   pub isRead : read ≡ parsed request
-  pub isKey : key ≡ keyPlace (read .request .«key_id» .0) (keysOf (g .keys))
+  pub isKey : key ≡ placeOfKey (read .request .«key_id» .0) (keysOf (g .keys))
   pub isByKey : byKey ≡ keyRefusal (g .cap) (keysOf (g .keys)) key (read .request)
   pub isPlace : place ≡ freePlace (g .table)
   pub size : length (g .table) ≡ tableSize
-  pub isNumber : number ≡ (read .refusal orElse byKey orElse lastNumber place (length info))
+  pub isNumber : number ≡ (read .refusal orElse byKey orElse roomRefusal (leb tableSize place) (length info))
 
 module _ (g : Gateway) (request info : List ℕ) (d : Decided g request info) where
   full-by-place : isFull (g .table) ≡ leb tableSize (d .place)
@@ -103,19 +99,19 @@ module _ (g : Gateway) (request info : List ℕ) (d : Decided g request info) wh
       d .isNumber ∙ rw (d .isByKey, d .isKey, d .isRead, full-by-place)
       (fields-only-accepted (requestRefusal request) (g .cap) (keysOf (g .keys)) (fieldsOf request) noFields _)
 
-  pub not-admitted : (r : Rejection) → r ≡ rejection (d .number) → (d .number ≡ 0 → ⊥)
+  pub not-admitted : (r : AdmitRefusal) → r ≡ refusalOfAdmit (d .number) → (d .number ≡ 0 → ⊥)
       → (g ≡ gatewayDoes g (admit request info) .state)
-      × ((toAdmit (AdmitAnswer.Refused r) ≡ gatewayDoes g (admit request info) .answer)
+      × ((ofAdmit (AdmitAnswer.Refused r) ≡ gatewayDoes g (admit request info) .answer)
       × (info ≡ gatewayDoes g (admit request info) .buffer))
   unfolding gatewayDoes
   not-admitted r e h =
       rw (← admit-number, e) (
         unless-refused (d .number) (admitted request g) g h,
-        (ap toAdmit (admit-refused (d .number) (nextTicket g) request h), unless-refused (d .number) _ info h),
+        (ap ofAdmit (admit-refused (d .number) (nextTicket g) request h), unless-refused (d .number) _ info h),
       )
 
   module _ (none : d .number ≡ 0) where
-    parts : (d .read .refusal ≡ 0) × (lastNumber (d .place) (length info) ≡ 0)
+    parts : (d .read .refusal ≡ 0) × (roomRefusal (leb tableSize (d .place)) (length info) ≡ 0)
     parts =
         let a = none-of-both (d .read .refusal) _ (sym (d .isNumber) ∙ none) in
         let b = none-of-both (d .byKey) _ (a .1) in
@@ -144,7 +140,7 @@ module _ (g : Gateway) (request info : List ℕ) (d : Decided g request info) wh
         → ticket ≡ record { 0 = nextTicket g } → keys ≡ changedState usedState (d .key) (g .keys) → e ≡ asked (ticket .0) (d .read .request)
         → m ≡ admission (ticket .0) (d .read .request) (length request) → buffer ≡ withFront (infoOf request) info
         → (record { «last_ticket» = ticket; cap = g .cap; keys = keys; table = set (g .table) (d .place) e } ≡ gatewayDoes g (admit request info) .state)
-        × ((toAdmit (AdmitAnswer.Admitted m) ≡ gatewayDoes g (admit request info) .answer)
+        × ((ofAdmit (AdmitAnswer.Admitted m) ≡ gatewayDoes g (admit request info) .answer)
         × (buffer ≡ gatewayDoes g (admit request info) .buffer))
     unfolding gatewayDoes
     is-admitted ticket keys e m buffer t k x a b =

@@ -9,15 +9,15 @@ use Rattle.exchange.specs.declared.RespondAnswer.{RespondAnswer}
 use Rattle.exchange.specs.declared.AbandonAnswer.{AbandonAnswer}
 use Rattle.exchange.specs.Request.{infoOf}
 use Rattle.exchange.specs.Exchange.{exchangeOf}
-use Rattle.exchange.specs.Steps.{Step, StepAnswer, toOpen, toRespond, toAbandon, answer, buffer}
-use Rattle.keys.specs.Keys.{keyPlace, retireRefusal}
+use Rattle.exchange.specs.Steps.{Step, StepAnswer, ofOpen, ofRespond, ofAbandon, answer, buffer}
+use Rattle.keys.specs.Keys.{placeOfKey, retireRefusal}
 use Rattle.keys.specs.Stored.{keysOf}
 use Rattle.gateway.specs.declared.Gateway.{Gateway}
 use Rattle.gateway.specs.declared.AdmitAnswer.{AdmitAnswer}
 use Rattle.gateway.specs.declared.RetireAnswer.{RetireAnswer}
 use Rattle.gateway.specs.declared.Report.{Report}
-use Rattle.gateway.specs.Head.{admitRefusal, admitAnswer, retireAnswer, report}
-use Rattle.gateway.specs.Gateway.{headOf, pendingIn, isFull, nextTicket, admitted, retiredGateway, stepped}
+use Rattle.gateway.specs.Registry.{admitRefusal, admitAnswer, retireAnswer, report}
+use Rattle.gateway.specs.Gateway.{registryOf, pendingIn, isFull, nextTicket, admitted, retiredGateway, stepped}
 
 -- a call with its arguments: admit (request, info buffer), retire (key id), a call on a ticket, report
 pub data Call : Type 0 where
@@ -27,37 +27,37 @@ pub data Call : Type 0 where
   reporting : Call
 
 pub data Answer : Type 0 where
-  toAdmit : AdmitAnswer → Answer
-  toRetire : RetireAnswer → Answer
-  toStep : StepAnswer → Answer
-  toReport : Report → Answer
+  ofAdmit : AdmitAnswer → Answer
+  ofRetire : RetireAnswer → Answer
+  ofStep : StepAnswer → Answer
+  ofReport : Report → Answer
 
 -- 01's refusal number of an answer; 0: the call is accepted
 unfoldable pub number : Answer → ℕ
-number (toAdmit (AdmitAnswer.Refused r)) = r .number
-number (toAdmit (AdmitAnswer.Admitted a)) = 0
-number (toRetire (RetireAnswer.Refused r)) = r .number
-number (toRetire RetireAnswer.Retired) = 0
-number (toStep (toOpen (OpenAnswer.Refused r))) = r .number
-number (toStep (toOpen OpenAnswer.Opened)) = 0
-number (toStep (toOpen (OpenAnswer.Failed status))) = 0
-number (toStep (toRespond (RespondAnswer.Refused r))) = r .number
-number (toStep (toRespond (RespondAnswer.Sealed s))) = 0
-number (toStep (toAbandon (AbandonAnswer.Refused r))) = r .number
-number (toStep (toAbandon AbandonAnswer.Abandoned)) = 0
-number (toReport r) = 0
+number (ofAdmit (AdmitAnswer.Refused r)) = r .number
+number (ofAdmit (AdmitAnswer.Admitted a)) = 0
+number (ofRetire (RetireAnswer.Refused r)) = r .number
+number (ofRetire RetireAnswer.Retired) = 0
+number (ofStep (ofOpen (OpenAnswer.Refused r))) = r .number
+number (ofStep (ofOpen OpenAnswer.Opened)) = 0
+number (ofStep (ofOpen (OpenAnswer.Failed status))) = 0
+number (ofStep (ofRespond (RespondAnswer.Refused r))) = r .number
+number (ofStep (ofRespond (RespondAnswer.Sealed s))) = 0
+number (ofStep (ofAbandon (AbandonAnswer.Refused r))) = r .number
+number (ofStep (ofAbandon AbandonAnswer.Abandoned)) = 0
+number (ofReport r) = 0
 
 -- the status of an answer that goes out unprotected; 0 where none does
 unfoldable pub unprotectedStatus : Answer → ℕ
-unprotectedStatus (toAdmit (AdmitAnswer.Refused r)) = r .status
-unprotectedStatus (toAdmit (AdmitAnswer.Admitted a)) = 0
-unprotectedStatus (toRetire r) = 0
-unprotectedStatus (toStep (toOpen (OpenAnswer.Failed status))) = status
-unprotectedStatus (toStep (toOpen OpenAnswer.Opened)) = 0
-unprotectedStatus (toStep (toOpen (OpenAnswer.Refused r))) = 0
-unprotectedStatus (toStep (toRespond r)) = 0
-unprotectedStatus (toStep (toAbandon r)) = 0
-unprotectedStatus (toReport r) = 0
+unprotectedStatus (ofAdmit (AdmitAnswer.Refused r)) = r .status
+unprotectedStatus (ofAdmit (AdmitAnswer.Admitted a)) = 0
+unprotectedStatus (ofRetire r) = 0
+unprotectedStatus (ofStep (ofOpen (OpenAnswer.Failed status))) = status
+unprotectedStatus (ofStep (ofOpen OpenAnswer.Opened)) = 0
+unprotectedStatus (ofStep (ofOpen (OpenAnswer.Refused r))) = 0
+unprotectedStatus (ofStep (ofRespond r)) = 0
+unprotectedStatus (ofStep (ofAbandon r)) = 0
+unprotectedStatus (ofReport r) = 0
 
 -- what a call gives: its answer, its buffer's bytes after it (none where it lends none), and the state that it hands back
 pub record Done (State : Type 0) : Type 0 where
@@ -67,29 +67,29 @@ pub record Done (State : Type 0) : Type 0 where
 
 -- the refusal numbers of admit and retire
 abbrev pub admitNumber : List ℕ → List ℕ → Gateway → ℕ
-admitNumber request info g = admitRefusal (headOf g) (isFull (g .table)) request (length info)
+admitNumber request info g = admitRefusal (registryOf g) (isFull (g .table)) request (length info)
 
 abbrev pub retireNumber : ℕ → Gateway → ℕ
-retireNumber id g = retireRefusal (keysOf (g .keys)) (keyPlace id (keysOf (g .keys)))
+retireNumber id g = retireRefusal (keysOf (g .keys)) (placeOfKey id (keysOf (g .keys)))
 
 unfoldable pub gatewayDoes : Gateway → Call → Done Gateway
 gatewayDoes g (admit request info) =
     record {
-      answer = toAdmit (admitAnswer (admitNumber request info g) (nextTicket g) request);
+      answer = ofAdmit (admitAnswer (admitNumber request info g) (nextTicket g) request);
       buffer = written (admitNumber request info g) (infoOf request) info;
       state = unlessRefused (admitNumber request info g) (admitted request g) g;
     }
 gatewayDoes g (retire id) =
     record {
-      answer = toRetire (retireAnswer (retireNumber id g));
+      answer = ofRetire (retireAnswer (retireNumber id g));
       buffer = [];
       state = unlessRefused (retireNumber id g) (retiredGateway id g) g;
     }
 gatewayDoes g (onTicket ticket step) =
     record {
-      answer = toStep (answer step (exchangeOf ticket (g .table)));
+      answer = ofStep (answer step (exchangeOf ticket (g .table)));
       buffer = buffer step (exchangeOf ticket (g .table));
       state = stepped ticket step g;
     }
 gatewayDoes g reporting =
-    record { answer = toReport (report (headOf g) (length (pendingIn (g .table)))); buffer = []; state = g }
+    record { answer = ofReport (report (registryOf g) (length (pendingIn (g .table)))); buffer = []; state = g }

@@ -11,10 +11,10 @@ use Rattle.exchange.specs.Request.{keyIdOf, fieldsOf}
 use Rattle.exchange.specs.Exchange.{free, isFree, hasTicket, exchangeOf, asked}
 use Rattle.exchange.specs.Steps.{Step, after}
 use Rattle.keys.specs.declared.Keys.{Keys}
-use Rattle.keys.specs.Keys.{keyPlace}
+use Rattle.keys.specs.Keys.{placeOfKey}
 use Rattle.keys.specs.Stored.{keysOf, storedKeys, oneMore, usedState, retiredState, changedState}
 use Rattle.gateway.specs.declared.Gateway.{Gateway}
-use Rattle.gateway.specs.Head.{Head, capHolds}
+use Rattle.gateway.specs.Registry.{Registry, setup}
 
 -- the places of the table
 abbrev pub tableSize : ℕ
@@ -25,13 +25,16 @@ abbrev pub emptyGateway : ℕ → Keys → Gateway
 emptyGateway cap keys = record { «last_ticket» = record { 0 = 0 }; cap = cap; keys = keys; table = replicate tableSize free }
 
 -- after setup; a refused one hands back a gateway without keys, cap 1, last ticket 0
-abbrev pub freshGateway : Outcome (List Configuration) → ℕ → Gateway
-freshGateway (good cs) cap = pick (capHolds cap) (emptyGateway cap (storedKeys cs)) (emptyGateway 1 (storedKeys []))
-freshGateway (bad r) cap = emptyGateway 1 (storedKeys [])
+abbrev pub gatewayFrom : ℕ → Outcome (List Configuration) → Gateway
+gatewayFrom cap (good cs) = emptyGateway cap (storedKeys cs)
+gatewayFrom cap (bad r) = emptyGateway 1 (storedKeys [])
+
+abbrev pub freshGateway : List ℕ → ℕ → Gateway
+freshGateway list cap = gatewayFrom cap (setup list cap)
 
 -- cap, last ticket and keys of a gateway
-abbrev pub headOf : Gateway → Head
-headOf g = record { cap = g .cap; lastTicket = g .«last_ticket» .0; keys = keysOf (g .keys) }
+abbrev pub registryOf : Gateway → Registry
+registryOf g = record { cap = g .cap; lastTicket = g .«last_ticket» .0; keys = keysOf (g .keys) }
 
 -- the pending exchanges of a table
 unfoldable pub pendingIn : List Exchange → List Exchange
@@ -42,7 +45,8 @@ pendingIn (e ∷ es) = pick (isFree e) (pendingIn es) (e ∷ pendingIn es)
 abbrev pub isFull : List Exchange → Bool
 isFull table = not (anyPasses isFree table)
 
--- 01's open point, the place of a new exchange in a table that is not full; nothing but `PlaceIsFree` (book) is used of it
+-- 01's open point, the place of a new exchange in a table that is not full: the first that is free. The theorems use of it only
+-- that it was free (`NewPlace` of book).
 unfoldable pub freePlace : List Exchange → ℕ
 freePlace table = firstPlace isFree table
 
@@ -56,7 +60,7 @@ admitted request g =
     record {
       «last_ticket» = record { 0 = nextTicket g };
       cap = g .cap;
-      keys = changedState usedState (keyPlace (keyIdOf request) (keysOf (g .keys))) (g .keys);
+      keys = changedState usedState (placeOfKey (keyIdOf request) (keysOf (g .keys))) (g .keys);
       table = set (g .table) (freePlace (g .table)) (asked (nextTicket g) (fieldsOf request));
     }
 
@@ -66,7 +70,7 @@ retiredGateway id g =
     record {
       «last_ticket» = g .«last_ticket»;
       cap = g .cap;
-      keys = changedState retiredState (keyPlace id (keysOf (g .keys))) (g .keys);
+      keys = changedState retiredState (placeOfKey id (keysOf (g .keys))) (g .keys);
       table = g .table;
     }
 

@@ -1,12 +1,8 @@
 // What admit decides and answers.
 ghost use mathlib.Core.Path.{_≡_};
-ghost use mathlib.Core.List.{List};
-ghost use lib.Dec.{leb, ltb};
-ghost use lib.ListN.{length};
-ghost use Rattle.wire.specs.Refusals.{_when_otherwise_};
-ghost use Rattle.wire.specs.Texts.{infoLength};
+ghost use lib.Dec.{leb};
 ghost use Rattle.keys.specs.Stored.{oneMore};
-ghost use Rattle.gateway.specs.Head.{_orElse_, statusOf, isKeyProblem, rejection, admission};
+ghost use Rattle.gateway.specs.Registry.{_orElse_, roomRefusal, statusOf, isKeyProblem, refusalOfAdmit, admission};
 ghost use Rattle.gateway.specs.Gateway.{tableSize};
 use crate::table::TABLE_SIZE;
 use exchange::Ticket;
@@ -29,14 +25,14 @@ pub struct Admission {
 
 // A refusal of admit: its number, the status of the unprotected answer, and whether that is an ohttp-key problem
 // (RFC 9458, 5.3).
-pub struct Rejection {
+pub struct AdmitRefusal {
     pub number: u8,
     pub status: u16,
     pub key_problem: bool,
 }
 
 impl Admission {
-    pub fn of(ticket: Ticket, request: Request, length: usize) -> Self
+    pub(crate) fn of(ticket: Ticket, request: Request, length: usize) -> Self
         ensures { λ r. ⌜ r ≡ admission (ticket .0) request length ⌝ }
     {
         let key_id = request.key_id;
@@ -53,7 +49,7 @@ impl Admission {
     }
 }
 
-impl Rejection {
+impl AdmitRefusal {
     // HTTP statuses.
     pub const BAD_REQUEST: u16 = 400;
 
@@ -63,10 +59,10 @@ impl Rejection {
 
     pub const SERVICE_UNAVAILABLE: u16 = 503;
 
-    pub fn of(number: u8) -> Self
-        ensures { λ r. ⌜ r ≡ rejection number ⌝ }
+    pub(crate) fn of(number: u8) -> Self
+        ensures { λ r. ⌜ r ≡ refusalOfAdmit number ⌝ }
     {
-        Rejection {
+        AdmitRefusal {
             number,
             status: status(number),
             key_problem: is_key_problem(number),
@@ -78,15 +74,15 @@ fn status(number: u8) -> u16
     ensures { λ r. ⌜ r ≡ statusOf number ⌝ }
 {
     if number == Refusal::TOO_LONG {
-        return Rejection::CONTENT_TOO_LARGE;
+        return AdmitRefusal::CONTENT_TOO_LARGE;
     }
     if number == Refusal::TABLE_FULL {
-        return Rejection::SERVICE_UNAVAILABLE;
+        return AdmitRefusal::SERVICE_UNAVAILABLE;
     }
     if number == Refusal::NO_ROOM {
-        return Rejection::INTERNAL_SERVER_ERROR;
+        return AdmitRefusal::INTERNAL_SERVER_ERROR;
     }
-    Rejection::BAD_REQUEST
+    AdmitRefusal::BAD_REQUEST
 }
 
 fn is_key_problem(number: u8) -> bool
@@ -99,9 +95,8 @@ fn is_key_problem(number: u8) -> bool
 }
 
 // The first refusal: of the request, of its key, of the place in the table, of the room for info.
-pub fn refusal(by_request: u8, by_key: u8, place: usize, room: usize) -> u8
-    ensures { λ r. ⌜ r ≡ («by_request» orElse «by_key» orElse
-        9 when leb tableSize place otherwise 14 when ltb room infoLength otherwise 0) ⌝ }
+pub(crate) fn refusal(by_request: u8, by_key: u8, place: usize, room: usize) -> u8
+    ensures { λ r. ⌜ r ≡ («by_request» orElse «by_key» orElse roomRefusal (leb tableSize place) room) ⌝ }
 {
     if by_request != 0 {
         return by_request;
@@ -119,7 +114,7 @@ pub fn refusal(by_request: u8, by_key: u8, place: usize, room: usize) -> u8
 }
 
 // The ticket after the last one, which stays where it is the largest.
-pub fn next_ticket(last: Ticket) -> Ticket
+pub(crate) fn next_ticket(last: Ticket) -> Ticket
     ensures { λ r. ⌜ r ≡ record { 0 = oneMore 64 (last .0) } ⌝ }
 {
     if last.0 < u64::MAX {

@@ -3,15 +3,14 @@
 ghost use mathlib.Core.Path.{_≡_};
 ghost use mathlib.Core.List.{[]};
 ghost use lib.ListN.{length};
-ghost use Rattle.keylist.specs.Layout.{parse};
-ghost use Rattle.exchange.specs.Steps.{openResult, respond, abandon, toOpen, toRespond, toAbandon};
+ghost use Rattle.exchange.specs.Steps.{openResult, respond, abandon, ofOpen, ofRespond, ofAbandon};
 ghost use Rattle.keys.specs.Stored.{storedKeys};
 ghost use Rattle.gateway.specs.declared.SetupAnswer.{SetupAnswer};
-ghost use Rattle.gateway.specs.Head.{setupAnswer};
+ghost use Rattle.gateway.specs.Registry.{setup, setupAnswer};
 ghost use Rattle.gateway.specs.Gateway.{tableSize, emptyGateway, freshGateway, withExchange};
-ghost use Rattle.gateway.specs.Calls.{admit, retire, onTicket, reporting, toAdmit, toRetire, toStep, toReport, gatewayDoes};
+ghost use Rattle.gateway.specs.Calls.{admit, retire, onTicket, reporting, ofAdmit, ofRetire, ofStep, ofReport, gatewayDoes};
 use crate::admission::Admission;
-use crate::admission::Rejection;
+use crate::admission::AdmitRefusal;
 use crate::admission::next_ticket;
 use crate::table::TABLE_SIZE;
 use crate::table::at;
@@ -55,7 +54,7 @@ pub enum SetupAnswer {
 
 pub enum AdmitAnswer {
     Admitted(Admission),
-    Refused(Rejection),
+    Refused(AdmitRefusal),
 }
 
 pub enum RetireAnswer {
@@ -105,8 +104,8 @@ pub struct AfterRetire {
 impl Gateway {
     // A fresh gateway of a key list and a cap, or the refusal and the gateway without keys.
     pub fn setup(list: &[u8], cap: u64) -> AfterSetup
-        ensures gateway { λ r. ⌜ r .gateway ≡ freshGateway (parse (now (list .entry))) cap ⌝ }
-        ensures answer { λ r. ⌜ r .answer ≡ setupAnswer (parse (now (list .entry))) cap ⌝ }
+        ensures gateway { λ r. ⌜ r .gateway ≡ freshGateway (now (list .entry)) cap ⌝ }
+        ensures answer { λ r. ⌜ r .answer ≡ setupAnswer (setup (now (list .entry)) cap) ⌝ }
     {
         let read = Keys::read(list);
         let checked = read.checked;
@@ -131,7 +130,7 @@ impl Gateway {
     // Admit: counts the use, gives the next ticket and writes info at the front of its buffer.
     pub fn admit(self, request: &[u8], info: &mut [u8]) -> AfterAdmit
         ensures gateway { λ r. ⌜ r .gateway ≡ gatewayDoes self (admit (now (request .entry)) (now (info .entry))) .state ⌝ }
-        ensures answer { λ r. ⌜ toAdmit (r .answer) ≡ gatewayDoes self (admit (now (request .entry)) (now (info .entry))) .answer ⌝ }
+        ensures answer { λ r. ⌜ ofAdmit (r .answer) ≡ gatewayDoes self (admit (now (request .entry)) (now (info .entry))) .answer ⌝ }
         ensures buffer { λ r. ⌜ now (info .exit) ≡ gatewayDoes self (admit (now (request .entry)) (now (info .entry))) .buffer ⌝ }
     {
         let parsed = request::read(request);
@@ -146,7 +145,7 @@ impl Gateway {
         if number != 0 {
             return AfterAdmit {
                 gateway: self,
-                answer: AdmitAnswer::Refused(Rejection::of(number)),
+                answer: AdmitAnswer::Refused(AdmitRefusal::of(number)),
             };
         }
         let front = request::info(request);
@@ -166,7 +165,7 @@ impl Gateway {
     // Open result: opened, or on failure closed with the unprotected status.
     pub fn open_result(self, ticket: Ticket, success: bool, n: u64) -> AfterOpen
         ensures gateway { λ r. ⌜ r .gateway ≡ gatewayDoes self (onTicket (ticket .0) (openResult success n)) .state ⌝ }
-        ensures answer { λ r. ⌜ toStep (toOpen (r .answer)) ≡ gatewayDoes self (onTicket (ticket .0) (openResult success n)) .answer ⌝ }
+        ensures answer { λ r. ⌜ ofStep (ofOpen (r .answer)) ≡ gatewayDoes self (onTicket (ticket .0) (openResult success n)) .answer ⌝ }
     {
         let table = self.table;
         let place = find(table, ticket);
@@ -191,7 +190,7 @@ impl Gateway {
     ) -> AfterRespond
         ensures gateway { λ r. ⌜ r .gateway ≡ gatewayDoes self
             (onTicket (ticket .0) (respond (now (enc .entry)) (now (nonce .entry)) plain (now (salt .entry)))) .state ⌝ }
-        ensures answer { λ r. ⌜ toStep (toRespond (r .answer)) ≡ gatewayDoes self
+        ensures answer { λ r. ⌜ ofStep (ofRespond (r .answer)) ≡ gatewayDoes self
             (onTicket (ticket .0) (respond (now (enc .entry)) (now (nonce .entry)) plain (now (salt .entry)))) .answer ⌝ }
         ensures buffer { λ r. ⌜ now (salt .exit) ≡ gatewayDoes self
             (onTicket (ticket .0) (respond (now (enc .entry)) (now (nonce .entry)) plain (now (salt .entry)))) .buffer ⌝ }
@@ -211,7 +210,7 @@ impl Gateway {
     // Abandon: closed, and no reply is sent.
     pub fn abandon(self, ticket: Ticket) -> AfterAbandon
         ensures gateway { λ r. ⌜ r .gateway ≡ gatewayDoes self (onTicket (ticket .0) abandon) .state ⌝ }
-        ensures answer { λ r. ⌜ toStep (toAbandon (r .answer)) ≡ gatewayDoes self (onTicket (ticket .0) abandon) .answer ⌝ }
+        ensures answer { λ r. ⌜ ofStep (ofAbandon (r .answer)) ≡ gatewayDoes self (onTicket (ticket .0) abandon) .answer ⌝ }
     {
         let table = self.table;
         let place = find(table, ticket);
@@ -228,7 +227,7 @@ impl Gateway {
     // Retire: later admissions refuse the key; pending exchanges go on.
     pub fn retire(self, id: KeyId) -> AfterRetire
         ensures gateway { λ r. ⌜ r .gateway ≡ gatewayDoes self (retire (id .0)) .state ⌝ }
-        ensures answer { λ r. ⌜ toRetire (r .answer) ≡ gatewayDoes self (retire (id .0)) .answer ⌝ }
+        ensures answer { λ r. ⌜ ofRetire (r .answer) ≡ gatewayDoes self (retire (id .0)) .answer ⌝ }
     {
         let keys = self.keys;
         let place = keys.find(id);
@@ -249,7 +248,7 @@ impl Gateway {
 
     // Report: last ticket, number pending, and each key's count and retirement.
     pub fn report(self) -> Report
-        ensures { λ r. ⌜ toReport r ≡ gatewayDoes self reporting .answer ⌝ }
+        ensures { λ r. ⌜ ofReport r ≡ gatewayDoes self reporting .answer ⌝ }
     {
         let keys = self.keys;
         let table = self.table;

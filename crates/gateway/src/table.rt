@@ -12,14 +12,16 @@ use exchange::Ticket;
 // The places of the table.
 pub const TABLE_SIZE: usize = 128;
 
-// The place for a new exchange; the table's size where none is free.
-pub fn free_place(table: [Exchange; TABLE_SIZE]) -> usize
+// The place for a new exchange; the table's size where none is free. Callers are also told the table's size, which the contract
+// of a function that takes the whole gateway does not show.
+pub(crate) fn free_place(table: [Exchange; TABLE_SIZE]) -> usize
     ensures place { λ r. ⌜ r ≡ freePlace table ⌝ }
     ensures size { λ r. ⌜ length table ≡ tableSize ⌝ }
 {
     let mut at = 0;
     while at < TABLE_SIZE {
-        if table[at].ticket.0 == 0 {
+        let exchange = table[at];
+        if exchange.is_free() {
             return at;
         }
         at += 1;
@@ -28,7 +30,7 @@ pub fn free_place(table: [Exchange; TABLE_SIZE]) -> usize
 }
 
 // The place of the pending exchange with a ticket; the table's size where none has it.
-pub fn find(table: [Exchange; TABLE_SIZE], ticket: Ticket) -> usize
+pub(crate) fn find(table: [Exchange; TABLE_SIZE], ticket: Ticket) -> usize
     ensures place { λ r. ⌜ r ≡ firstPlace (hasTicket (ticket .0)) table ⌝ }
     ensures size { λ r. ⌜ length table ≡ tableSize ⌝ }
 {
@@ -46,7 +48,7 @@ pub fn find(table: [Exchange; TABLE_SIZE], ticket: Ticket) -> usize
 }
 
 // The number of pending exchanges.
-pub fn count_pending(table: [Exchange; TABLE_SIZE]) -> usize
+pub(crate) fn count_pending(table: [Exchange; TABLE_SIZE]) -> usize
     ensures { λ r. ⌜ r ≡ length (pendingIn table) ⌝ }
 {
     let mut count = 0;
@@ -67,7 +69,7 @@ fn number(exchange: Exchange) -> usize
 }
 
 // The exchange at a place; a free one where there is no such place.
-pub fn at(table: [Exchange; TABLE_SIZE], place: usize) -> Exchange
+pub(crate) fn at(table: [Exchange; TABLE_SIZE], place: usize) -> Exchange
     ensures { λ r. ⌜ r ≡ getD table place free ⌝ }
 {
     if place < TABLE_SIZE {

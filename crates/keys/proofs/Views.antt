@@ -10,7 +10,7 @@ use Rattle.wire.specs.declared.refusal.Refusal.{Refusal}
 use Rattle.keylist.specs.Layout.{Configuration, good, bad, parse, mostConfigurations}
 use Rattle.keys.specs.declared.KeyState.{KeyState}
 use Rattle.keys.specs.declared.Keys.{Keys}
-use Rattle.keys.specs.Keys.{Key, freshKey, keyAt, noKey, used, retired, changed}
+use Rattle.keys.specs.Keys.{Key, freshKey, keyAt, noKey, withUse, withRetirement, changed}
 use Rattle.keys.specs.Stored.{mostPairs, padded, noPair, blankKey, keyOf, keysOf, storedKey, storedKeys, keysFrom, oneMore, usedState, retiredState, changedState}
 use Rattle.keys.proofs.Arrays.{take-padded, map-set, length-stored, stored-at}
 use Rattle.keys.proofs.Parsed.{Distinct, ids, parsed}
@@ -39,16 +39,16 @@ module _ (ks : Keys) (place : ℕ) (h : place < length (keysOf ks)) where
 
   -- one use more, as long as the count is not the largest number
   pub used-view : keyAt (keysOf ks) place .count < 2 ^ 32 - 1
-      → keysOf (changedState usedState place ks) ≡ changed used place (keysOf ks)
+      → keysOf (changedState usedState place ks) ≡ changed withUse place (keysOf ks)
   used-view l =
       let k = keyOf (getD (ks .list) place blankKey) in
       let count : keyAt (keysOf ks) place .count ≡ k .count = ap (λ (key : Key). key .count) (here .1) in
       let one : oneMore 32 (k .count) ≡ k .count + 1 = omega arith in
-      changed-view usedState used
+      changed-view usedState withUse
       (ap (λ (n : ℕ). withCount k n) one)
 
-  pub retired-view : keysOf (changedState retiredState place ks) ≡ changed retired place (keysOf ks)
-  retired-view = changed-view retiredState retired refl
+  pub retired-view : keysOf (changedState retiredState place ks) ≡ changed withRetirement place (keysOf ks)
+  retired-view = changed-view retiredState withRetirement refl
 
 -- a configuration that is stored is a fresh key
 stored-one : (c : Configuration) → keyOf (storedKey c) ≡ freshKey c

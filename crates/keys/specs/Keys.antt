@@ -32,8 +32,8 @@ abbrev pub hasId : ℕ → Key → Bool
 hasId id key = eqb (key .id) id
 
 -- the place of the key with the id, the number of keys where none has it; and the key at a place
-abbrev pub keyPlace : ℕ → List Key → ℕ
-keyPlace id keys = firstPlace (hasId id) keys
+abbrev pub placeOfKey : ℕ → List Key → ℕ
+placeOfKey id keys = firstPlace (hasId id) keys
 
 abbrev pub keyAt : List Key → ℕ → Key
 keyAt keys place = getD keys place noKey
@@ -64,11 +64,12 @@ retireRefusal keys place =
     0
 
 -- the key has one use more
-abbrev pub used : Key → Key
-used key = record { id = key .id; kem = key .kem; pairs = key .pairs; count = key .count + 1; retired = key .retired }
+abbrev pub withUse : Key → Key
+withUse key = record { id = key .id; kem = key .kem; pairs = key .pairs; count = key .count + 1; retired = key .retired }
 
-abbrev pub retired : Key → Key
-retired key = record { id = key .id; kem = key .kem; pairs = key .pairs; count = key .count; retired = true }
+-- the key is retired
+abbrev pub withRetirement : Key → Key
+withRetirement key = record { id = key .id; kem = key .kem; pairs = key .pairs; count = key .count; retired = true }
 
 -- the keys with the one at a place changed
 abbrev pub changed : (Key → Key) → ℕ → List Key → List Key

@@ -1,11 +1,11 @@
 -- How the gateway stores its keys: arrays of a fixed length whose first elements count, and what they stand for.
-use Prim.Native.Nat.{ℕ, _+_, _-_, _^_, min}
+use Prim.Native.Nat.{ℕ, _/_, _+_, _-_, _^_, min}
 use mathlib.Core.Bool.{false, not}
 use mathlib.Core.List.{List, [], _++_, map}
 use lib.Dec.{eqb}
 use lib.ListN.{length, getD, take, set, replicate}
 use Rattle.keylist.specs.declared.Pair.{Pair}
-use Rattle.keylist.specs.Layout.{Configuration, Outcome, good, bad, mostConfigurations}
+use Rattle.keylist.specs.Layout.{Configuration, Outcome, good, bad, mostConfigurations, mostPairBytes}
 use Rattle.keylist.specs.Answers.{checked}
 use Rattle.keys.specs.declared.KeyState.{KeyState}
 use Rattle.keys.specs.declared.Keys.{Keys}
@@ -13,9 +13,9 @@ use Rattle.keys.specs.declared.KeysRead.{KeysRead}
 use Rattle.keys.specs.declared.KeyReport.{KeyReport}
 use Rattle.keys.specs.Keys.{Key, reportOf}
 
--- the most pairs of a key
+-- the most pairs of a key, of four bytes each
 abbrev pub mostPairs : ℕ
-mostPairs = 16
+mostPairs = mostPairBytes / 4
 
 -- the elements first, then blanks up to a length
 abbrev pub padded : {A : Type 0} → ℕ → A → List A → List A

@@ -7,7 +7,7 @@ ghost use lib.Dec.{ltb};
 ghost use lib.ListN.{length};
 ghost use Rattle.keylist.specs.Layout.{parse, layoutHolds, configurationAt, pairsAt};
 ghost use Rattle.keylist.specs.Answers.{IsGood};
-ghost use Rattle.keys.specs.Keys.{keyPlace, isPair, offers, keyRefusal, retireRefusal, reportOf};
+ghost use Rattle.keys.specs.Keys.{placeOfKey, isPair, offers, keyRefusal, retireRefusal, reportOf};
 ghost use Rattle.keys.specs.Stored.{mostPairs, padded, noPair, blankKey, keyOf, keysOf, storedKey, storedKeys, keysFrom, keysRead, oneMore, usedState, retiredState, changedState, storedReports};
 use algorithms::Aead;
 use algorithms::Kdf;
@@ -17,13 +17,14 @@ use keylist::Checked;
 use keylist::KeyId;
 use keylist::Pair;
 use keylist::check::MOST_CONFIGURATIONS;
+use keylist::check::MOST_PAIR_BYTES;
 use keylist::check::check;
 use keylist::check::place_at;
 use wire::bytes::word_at;
 use wire::refusal::Refusal;
 
-// The most pairs of a key: the most pair bytes of a configuration, by four.
-pub const MOST_PAIRS: usize = 16;
+// The most pairs of a key, of four bytes each.
+pub const MOST_PAIRS: usize = MOST_PAIR_BYTES / 4;
 
 // A key. Its pairs stand first in `pairs`; it is live where `retired` is 0.
 #[repr(C)]
@@ -146,7 +147,7 @@ impl Keys {
 
     // The place of the key with an id; the number of keys where none has it.
     pub fn find(self, id: KeyId) -> usize
-        ensures { λ r. ⌜ r ≡ keyPlace (id .0) (keysOf self) ⌝ }
+        ensures { λ r. ⌜ r ≡ placeOfKey (id .0) (keysOf self) ⌝ }
     {
         let count = self.count as usize;
         let list = self.list;

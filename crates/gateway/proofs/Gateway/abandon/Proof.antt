@@ -6,8 +6,8 @@ use borrow.Author.Needs.{needs}
 use Rattle.exchange.specs.declared.Exchange.{Exchange}
 use Rattle.exchange.specs.declared.AbandonAnswer.{AbandonAnswer}
 use Rattle.exchange.specs.Exchange.{exchangeOf}
-use Rattle.exchange.specs.Steps.{abandon, refusal, abandonAnswer, toAbandon, answer}
-use Rattle.gateway.specs.Calls.{toStep, gatewayDoes}
+use Rattle.exchange.specs.Steps.{abandon, refusal, abandonAnswer, ofAbandon, answer}
+use Rattle.gateway.specs.Calls.{ofStep, gatewayDoes}
 use Rattle.gateway.proofs.Places.{stepped-by}
 use Rattle.gateway.proofs.Gateway.abandon.Statement.{statement}
 use Rattle.gateway.proofs.Gateway.abandon.Tie as tie
@@ -33,7 +33,7 @@ returns c =
     let moved = c .before .before .abandon .ensures in
     let was : c .before .before .before .at .result ≡ exchangeOf (a .ticket .0) (a .self .table) = rw found at here in (
       c .with-exchange .ensures ∙ stepped-by (a .self) (a .ticket .0) (abandon) _ _ _ found here (moved .1),
-      ap (λ (e : AbandonAnswer). toStep (toAbandon e)) (moved .0 ∙ ap (λ (e : Exchange). abandonAnswer (refusal abandon e)) was),
+      ap (λ (e : AbandonAnswer). ofStep (ofAbandon e)) (moved .0 ∙ ap (λ (e : Exchange). abandonAnswer (refusal abandon e)) was),
     )
 
 pub abandon-spec : {M : Type 1} → statement M

@@ -6,8 +6,8 @@ use borrow.Author.Needs.{needs}
 use Rattle.exchange.specs.declared.Exchange.{Exchange}
 use Rattle.exchange.specs.declared.OpenAnswer.{OpenAnswer}
 use Rattle.exchange.specs.Exchange.{exchangeOf}
-use Rattle.exchange.specs.Steps.{openResult, refusal, openAnswer, toOpen, answer}
-use Rattle.gateway.specs.Calls.{toStep, gatewayDoes}
+use Rattle.exchange.specs.Steps.{openResult, refusal, openAnswer, ofOpen, answer}
+use Rattle.gateway.specs.Calls.{ofStep, gatewayDoes}
 use Rattle.gateway.proofs.Places.{stepped-by}
 use Rattle.gateway.proofs.Gateway.open_result.Statement.{statement}
 use Rattle.gateway.proofs.Gateway.open_result.Tie as tie
@@ -33,7 +33,7 @@ returns c =
     let moved = c .before .before .open-result .ensures in
     let was : c .before .before .before .at .result ≡ exchangeOf (a .ticket .0) (a .self .table) = rw found at here in (
       c .with-exchange .ensures ∙ stepped-by (a .self) (a .ticket .0) (openResult (a .success) (a .n)) _ _ _ found here (moved .1),
-      ap (λ (e : OpenAnswer). toStep (toOpen e)) (moved .0 ∙ ap (λ (e : Exchange). openAnswer (refusal (openResult (a .success) (a .n)) e) (a .success)) was),
+      ap (λ (e : OpenAnswer). ofStep (ofOpen e)) (moved .0 ∙ ap (λ (e : Exchange). openAnswer (refusal (openResult (a .success) (a .n)) e) (a .success)) was),
     )
 
 pub open-result-spec : {M : Type 1} → statement M

@@ -7,8 +7,8 @@ use borrow.Author.Needs.{needs}
 use Rattle.exchange.specs.declared.Exchange.{Exchange}
 use Rattle.exchange.specs.declared.RespondAnswer.{RespondAnswer}
 use Rattle.exchange.specs.Exchange.{exchangeOf}
-use Rattle.exchange.specs.Steps.{respond, refusal, respondAnswer, toRespond, answer, buffer}
-use Rattle.gateway.specs.Calls.{toStep, gatewayDoes}
+use Rattle.exchange.specs.Steps.{respond, refusal, respondAnswer, ofRespond, answer, buffer}
+use Rattle.gateway.specs.Calls.{ofStep, gatewayDoes}
 use Rattle.gateway.proofs.Places.{stepped-by}
 use Rattle.gateway.proofs.Gateway.respond.Statement.{statement}
 use Rattle.gateway.proofs.Gateway.respond.Tie as tie
@@ -41,7 +41,7 @@ returns c =
     let was : at .at .result ≡ exchangeOf (a .ticket .0) (a .self .table) = rw found at here in (
       c .with-exchange .ensures ∙ stepped-by (a .self) (a .ticket .0) call _ _ _ found here (moved .1 .0),
       (
-        ap (λ (e : RespondAnswer). toStep (toRespond e))
+        ap (λ (e : RespondAnswer). ofStep (ofRespond e))
             (moved .0 ∙ ap (λ (e : Exchange). respondAnswer (refusal call e) (length (a .nonce .now)) (a .plain)) was),
         moved .1 .1 ∙ ap (λ (e : Exchange). buffer call e) was,
       ),

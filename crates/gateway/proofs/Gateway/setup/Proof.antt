@@ -8,7 +8,7 @@ use mathlib.Core.Bool.{true}
 use Rattle.keylist.specs.Layout.{parse}
 use Rattle.keys.specs.declared.KeysRead.{KeysRead}
 use Rattle.gateway.specs.declared.SetupAnswer.{SetupAnswer}
-use Rattle.gateway.specs.Head.{capHolds, mostUses}
+use Rattle.gateway.specs.Registry.{capHolds, mostUses}
 use Rattle.gateway.specs.Gateway.{emptyGateway}
 use Rattle.gateway.proofs.Fresh.{cap-refused, ready, list-refused}
 use Rattle.gateway.proofs.Gateway.setup.Statement.{statement}

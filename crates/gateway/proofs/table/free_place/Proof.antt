@@ -4,7 +4,6 @@ use mathlib.Core.Path.{_≡_, sym, _∙_}
 use Prim.Native.Nat.{ℕ, _-_, _≤_, _<_}
 use native.Mathlib.Omega.{arith}
 use borrow.Author.Needs.{needs}
-use borrow.Author.Tests.{eq-eqb, ne-eqb}
 use lib.ListN.{length, getD}
 use mathlib.Core.Bool.{false}
 use Rattle.exchange.specs.Exchange.{free, isFree}
@@ -23,19 +22,22 @@ abbrev μ-loop : tie.MeasureT-loop
 loop-holds : tie.Need-loop-holds Inv-loop μ-loop
 loop-holds c = (omega arith, below-none (λ (j : ℕ). isFree (getD (c .args .t1) j free) ≡ false))
 
-mul-if1 : tie.Need-mul-if1 Inv-loop μ-loop
-mul-if1 c = search needs
+mul-exchange : tie.Need-mul-exchange Inv-loop μ-loop
+mul-exchange c = search needs
 
-element-copy-out-if1 : tie.Need-element-copy-out-if1 Inv-loop μ-loop
-element-copy-out-if1 c = search needs
+array-copy-out-exchange : tie.Need-array-copy-out-exchange Inv-loop μ-loop
+array-copy-out-exchange c = search needs
+
+is-free-requires : tie.Need-is-free-requires Inv-loop μ-loop
+is-free-requires c κs = search needs
 
 returns : tie.Need-returns Inv-loop μ-loop
 unfolding freePlace
 returns c =
-    let l = c .before .before .loop in
-    let table = c .before .before .before .args .t1 in
+    let l = c .before .before .before .before .loop in
+    let table = c .before .before .before .before .before .args .t1 in
     let size : length table ≡ tableSize = search needs in
-    (sym (first-at free isFree table (l .at) (omega (arith, size)) (l .inv .1) (eq-eqb _ _ (c .if1 .taken))), size)
+    (sym (first-at free isFree table (l .at) (omega (arith, size)) (l .inv .1) (sym (c .before .is-free .ensures) ∙ c .if1 .taken)), size)
 
 add-at : tie.Need-add-at Inv-loop μ-loop
 add-at c = search needs
@@ -45,9 +47,9 @@ loop-less c = search needs
 
 loop-again : tie.Need-loop-again Inv-loop μ-loop
 loop-again c =
-    let l = c .before .before .loop in
-    let table = c .before .before .before .args .t1 in
-    (omega arith, below-more _ _ (l .inv .1) (ne-eqb _ _ (c .if1 .left)))
+    let l = c .before .before .before .before .loop in
+    let table = c .before .before .before .before .before .args .t1 in
+    (omega arith, below-more _ _ (l .inv .1) (sym (c .before .is-free .ensures) ∙ c .if1 .left))
 
 returns-2 : tie.Need-returns-2 Inv-loop μ-loop
 unfolding freePlace
@@ -65,8 +67,9 @@ free-place-spec =
     Inv-loop
     μ-loop
     loop-holds
-    mul-if1
-    element-copy-out-if1
+    mul-exchange
+    array-copy-out-exchange
+    is-free-requires
     returns
     add-at
     loop-less

@@ -7,19 +7,19 @@ use lib.ListN.{length}
 use Rattle.wire.specs.Tests.{pick, _and_}
 use Rattle.wire.specs.Refusals.{_when_otherwise_, refused}
 use Rattle.wire.specs.Texts.{headLength, infoLength}
-use Rattle.keylist.specs.Layout.{Configuration, Outcome, good, bad}
+use Rattle.keylist.specs.Layout.{Configuration, Outcome, good, bad, parse}
 use Rattle.exchange.specs.declared.request.Request.{Request}
 use Rattle.exchange.specs.Request.{keyIdOf, fieldsOf, requestRefusal}
-use Rattle.keys.specs.Keys.{Key, freshKey, keyPlace, keyRefusal}
+use Rattle.keys.specs.Keys.{Key, freshKey, placeOfKey, keyRefusal}
 use Rattle.keys.specs.Stored.{storedReports}
 use Rattle.gateway.specs.declared.SetupAnswer.{SetupAnswer}
 use Rattle.gateway.specs.declared.admission.Admission.{Admission}
-use Rattle.gateway.specs.declared.admission.Rejection.{Rejection}
+use Rattle.gateway.specs.declared.admission.AdmitRefusal.{AdmitRefusal}
 use Rattle.gateway.specs.declared.AdmitAnswer.{AdmitAnswer}
 use Rattle.gateway.specs.declared.RetireAnswer.{RetireAnswer}
 use Rattle.gateway.specs.declared.Report.{Report}
 
-pub record Head : Type 0 where
+pub record Registry : Type 0 where
   pub cap : ℕ
   pub lastTicket : ℕ
   pub keys : List Key
@@ -31,19 +31,26 @@ mostUses = 1000000000
 abbrev pub capHolds : ℕ → Bool
 capHolds cap = leb 1 cap and leb cap mostUses
 
--- 01, "Order", setup: 15 with its place, 17; else the number of keys
-abbrev pub setupAnswer : Outcome (List Configuration) → ℕ → SetupAnswer
-setupAnswer (good cs) cap = pick (capHolds cap) (SetupAnswer.Ready (length cs)) (SetupAnswer.Refused (refused 17))
-setupAnswer (bad r) cap = SetupAnswer.Refused r
+-- 01, "Order", setup: 15 with its place, 17; else the configurations
+abbrev pub withCap : ℕ → Outcome (List Configuration) → Outcome (List Configuration)
+withCap cap (good cs) = pick (capHolds cap) (good cs) (bad (refused 17))
+withCap cap (bad r) = bad r
 
--- after a refused setup there are no keys and the cap is 1
-abbrev pub refusedHead : Head
-refusedHead = record { cap = 1; lastTicket = 0; keys = [] }
+abbrev pub setup : List ℕ → ℕ → Outcome (List Configuration)
+setup list cap = withCap cap (parse list)
 
--- after setup
-abbrev pub freshHead : Outcome (List Configuration) → ℕ → Head
-freshHead (good cs) cap = pick (capHolds cap) (record { cap = cap; lastTicket = 0; keys = map freshKey cs }) refusedHead
-freshHead (bad r) cap = refusedHead
+-- the number of keys, or the refusal
+abbrev pub setupAnswer : Outcome (List Configuration) → SetupAnswer
+setupAnswer (good cs) = SetupAnswer.Ready (length cs)
+setupAnswer (bad r) = SetupAnswer.Refused r
+
+-- at first counts and last ticket are 0 and no key is retired; after a refused setup there are no keys and the cap is 1
+abbrev pub registryFrom : ℕ → Outcome (List Configuration) → Registry
+registryFrom cap (good cs) = record { cap = cap; lastTicket = 0; keys = map freshKey cs }
+registryFrom cap (bad r) = record { cap = 1; lastTicket = 0; keys = [] }
+
+abbrev pub freshRegistry : List ℕ → ℕ → Registry
+freshRegistry list cap = registryFrom cap (setup list cap)
 
 infixr 3 _orElse_
 -- the first number, or where it is 0 the second
@@ -51,15 +58,19 @@ abbrev pub _orElse_ : ℕ → ℕ → ℕ
 _orElse_ zero m = m
 _orElse_ (suc n) m = suc n
 
--- 01, "Order", admit: 2, 1, 3, 1 of the request; 4, 5, 6, 7, 8 of the key that it names; 9 of the table, told to be full or not;
--- 14 of the info buffer's length
-unfoldable pub admitRefusal : Head → Bool → List ℕ → ℕ → ℕ
-admitRefusal head full request room =
-    requestRefusal request
-    orElse keyRefusal (head .cap) (head .keys) (keyPlace (keyIdOf request) (head .keys)) (fieldsOf request)
-    orElse 9 when full otherwise
+-- 9 of the table, told to be full or not; 14 of the info buffer's length
+abbrev pub roomRefusal : Bool → ℕ → ℕ
+roomRefusal full room =
+    9 when full otherwise
     14 when ltb room infoLength otherwise
     0
+
+-- 01, "Order", admit: 2, 1, 3, 1 of the request; 4, 5, 6, 7, 8 of the key that it names; 9, 14
+unfoldable pub admitRefusal : Registry → Bool → List ℕ → ℕ → ℕ
+admitRefusal registry full request room =
+    requestRefusal request
+    orElse keyRefusal (registry .cap) (registry .keys) (placeOfKey (keyIdOf request) (registry .keys)) (fieldsOf request)
+    orElse roomRefusal full room
 
 -- 01, "Refusal numbers", the last column: the status of an unprotected answer to admit, and whether it is an ohttp-key problem
 abbrev pub statusOf : ℕ → ℕ
@@ -72,8 +83,8 @@ statusOf number =
 abbrev pub isKeyProblem : ℕ → Bool
 isKeyProblem number = leb 4 number and leb number 8
 
-abbrev pub rejection : ℕ → Rejection
-rejection number = record { number = number; status = statusOf number; «key_problem» = isKeyProblem number }
+abbrev pub refusalOfAdmit : ℕ → AdmitRefusal
+refusalOfAdmit number = record { number = number; status = statusOf number; «key_problem» = isKeyProblem number }
 
 -- an admitted request: ticket, key id, pair, and where enc and ciphertext start and end
 abbrev pub admission : ℕ → Request → ℕ → Admission
@@ -92,7 +103,7 @@ admission ticket request length =
 -- the answer of admit, by the refusal number
 abbrev pub admitAnswer : ℕ → ℕ → List ℕ → AdmitAnswer
 admitAnswer zero ticket request = AdmitAnswer.Admitted (admission ticket (fieldsOf request) (length request))
-admitAnswer (suc n) ticket request = AdmitAnswer.Refused (rejection (suc n))
+admitAnswer (suc n) ticket request = AdmitAnswer.Refused (refusalOfAdmit (suc n))
 
 -- the answer of retire, by the refusal number
 abbrev pub retireAnswer : ℕ → RetireAnswer
@@ -100,11 +111,11 @@ retireAnswer zero = RetireAnswer.Retired
 retireAnswer (suc n) = RetireAnswer.Refused (refused (suc n))
 
 -- the report: last ticket, number pending, and the keys in list order
-abbrev pub report : Head → ℕ → Report
-report head pending =
+abbrev pub report : Registry → ℕ → Report
+report registry pending =
     record {
-      «last_ticket» = record { 0 = head .lastTicket };
+      «last_ticket» = record { 0 = registry .lastTicket };
       pending = pending;
-      «key_count» = length (head .keys);
-      keys = storedReports (head .keys);
+      «key_count» = length (registry .keys);
+      keys = storedReports (registry .keys);
     }

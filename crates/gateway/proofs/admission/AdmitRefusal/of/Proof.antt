@@ -2,8 +2,8 @@
 -- Assumes nothing.
 use Prim.Native.Nat.{_-_}
 use borrow.Author.Needs.{needs}
-use Rattle.gateway.proofs.admission.Rejection.of.Statement.{statement}
-use Rattle.gateway.proofs.admission.Rejection.of.Tie as tie
+use Rattle.gateway.proofs.admission.AdmitRefusal.of.Statement.{statement}
+use Rattle.gateway.proofs.admission.AdmitRefusal.of.Tie as tie
 
 status-requires : tie.Need-status-requires
 status-requires c κs = search needs
