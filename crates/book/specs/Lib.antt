@@ -2,6 +2,7 @@
 pub mod Book
 pub mod History
 pub mod OneCall
+pub mod Lifecycle
 pub mod Counts
 pub mod Demand3
 pub mod Edges
