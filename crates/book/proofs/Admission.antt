@@ -3,14 +3,18 @@
 use mathlib.Core.Path.{_≡_, sym, ap, _∙_}
 use mathlib.Core.List.{List}
 use Prim.Native.Nat.{ℕ}
-use Rattle.keylist.specs.Layout.{parse}
-use Rattle.exchange.specs.Request.{keyIdOf}
+use lib.ListN.{length}
+use lib.Seq.{getD-set-same, getD-set-other}
+use Rattle.exchange.specs.Request.{keyIdOf, fieldsOf}
+use Rattle.exchange.specs.Exchange.{free, asked}
 use Rattle.keys.specs.Keys.{placeOfKey}
 use Rattle.gateway.specs.declared.Gateway.{Gateway}
-use Rattle.gateway.specs.Gateway.{freshGateway, registryOf, nextTicket}
+use Rattle.gateway.specs.Gateway.{freshGateway, registryOf, isFull, freePlace, nextTicket}
 use Rattle.gateway.specs.Calls.{admit, number, gatewayDoes, admitNumber}
 use Rattle.book.specs.Book.{Book, freshBook}
-use Rattle.book.specs.OneCall.{Admissible, AdmissionExactly}
+use Rattle.book.specs.OneCall.{Admissible, AdmissionExactly, PlaceIsFree}
+use Rattle.book.proofs.Accepting.{admit-accepted}
+use Rattle.book.proofs.Placing.{place-inside, place-free}
 use Rattle.book.proofs.Numbers.{admit-number}
 use Rattle.book.proofs.Admitting.{admissible, admitted-then}
 use Rattle.book.proofs.KeyCounts.{place-of-id}
@@ -35,3 +39,19 @@ admission-exactly list cap calls request info =
       λ e. admissible _ request info (sym (numbered _ request info) ∙ e),
       λ h. numbered _ request info ∙ admitted-then _ request info h (first-named _ _ request info h r),
     )
+
+-- an accepted admit puts its exchange at a place that was free
+pub place-is-free : PlaceIsFree
+unfolding gatewayDoes
+place-is-free g request info e =
+    let none = sym (numbered g request info) ∙ e in
+    let room = admit-accepted (registryOf g) (isFull (g .table)) request (length info) none .room in
+    let place = freePlace (g .table) in
+    let new = asked (nextTicket g) (fieldsOf request) in
+    rw none (record {
+      place = place;
+      inside = place-inside (g .table) room;
+      wasFree = place-free (g .table) room;
+      holdsNew = getD-set-same (g .table) place new free (place-inside (g .table) room);
+      others = λ other h. getD-set-other (g .table) place other new free h;
+    })

@@ -29,7 +29,7 @@ use Rattle.gateway.specs.Calls.{admitNumber}
 use Rattle.gateway.proofs.Deciding.{none-of-both, both-none}
 use Rattle.book.specs.OneCall.{IsElement, Admissible}
 use Rattle.keys.specs.Stored.{noPair}
-use Rattle.book.proofs.Placing.{place-is-free}
+use Rattle.book.proofs.Placing.{place-inside, place-free}
 
 -- a negated test that fails, and one that holds
 holds-not : (b : Bool) → b ≡ true → not b ≡ false
@@ -117,7 +117,7 @@ admissible g request info e =
     let u = usable (g .cap) keys place (fieldsOf request) (b .0) in
     let known = and-left (knownPair (kdfOf request) (aeadOf request)) (anyPasses (isPair (kdfOf request) (aeadOf request)) (keyAt keys place .pairs)) (u .pair) in
     record {
-      wellFormed = record { kem = r .0; whole = r .1 .0; short = r .1 .1 };
+      wellFormed = record { kem = r .0; longEnough = r .1 .0; notTooLong = r .1 .1 };
       place = place;
       isKey = u .isKey;
       named = eqb-true (keyAt keys place .id) (keyIdOf request) (first-passes noKey (hasId (keyIdOf request)) keys (u .isKey));
@@ -129,7 +129,7 @@ admissible g request info e =
           listed-pair (kdfOf request) (aeadOf request) (keyAt keys place .pairs)
           (and-right (knownPair (kdfOf request) (aeadOf request)) (anyPasses (isPair (kdfOf request) (aeadOf request)) (keyAt keys place .pairs)) (u .pair));
       uses = u .uses;
-      freeTable = (freePlace (g .table), place-is-free .inside (g .table) (c .0), place-is-free .wasFree (g .table) (c .0));
+      freeTable = (freePlace (g .table), place-inside (g .table) (c .0), place-free (g .table) (c .0));
       room = ltb-false (length info) infoLength (d .0);
     }
 
@@ -142,7 +142,7 @@ admitted-then g request info h first =
     let offered : offers (kdfOf request) (aeadOf request) (keyAt keys (h .place)) ≡ true = rw (h .kdfKnown, h .aeadKnown) (pair-listed (kdfOf request) (aeadOf request) (keyAt keys (h .place) .pairs) (h .pairOffered)) in
     let u : Usable (g .cap) keys (h .place) (fieldsOf request) = record { isKey = h .isKey; kem = h .kem; pair = offered; live = h .live; uses = h .uses } in
     both-none (requestRefusal request) _
-    (request-accepted request (h .wellFormed .kem) (h .wellFormed .whole) (h .wellFormed .short))
+    (request-accepted request (h .wellFormed .kem) (h .wellFormed .longEnough) (h .wellFormed .notTooLong))
     (rw first (both-none (keyRefusal (g .cap) keys (h .place) (fieldsOf request)) _
     (not-refused-by-key (g .cap) keys (h .place) (fieldsOf request) u)
     (passed-on 9 (isFull (g .table)) _ (not-full (g .table) (h .freeTable .0) (h .freeTable .1) (h .freeTable .2))

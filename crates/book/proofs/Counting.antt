@@ -6,20 +6,20 @@ use mathlib.Core.List.{List, [], _∷_, _++_, append-nil, append-assoc}
 use native.Mathlib.Nat.{add-zero, suc-add}
 use native.Mathlib.Omega.{arith}
 use borrow.Author.Tests.{eqb-true, eqb-false}
-use lib.Dec.{eqb}
+use lib.Dec.{eqb, eqb·suc-zero}
 use lib.ListN.{length}
-use Rattle.wire.specs.Tests.{pick}
-use Rattle.wire.specs.Search.{anyPasses, among}
+use Rattle.wire.specs.Tests.{pick, _and_}
 use Rattle.wire.specs.Refusals.{unlessRefused}
-use Rattle.wire.proofs.Booleans.{either}
+use Rattle.wire.proofs.Booleans.{either, and-false}
 use Rattle.wire.proofs.Matches.{first-passes}
 use Rattle.exchange.specs.Request.{keyIdOf}
 use Rattle.keys.specs.Keys.{Key, noKey, hasId, placeOfKey, keyAt, withUse, withRetirement}
 use Rattle.gateway.specs.Registry.{admitAnswer}
-use Rattle.gateway.specs.Calls.{Call, admit, retire, onTicket, reporting, Answer, ofAdmit}
+use Rattle.gateway.specs.Calls.{Call, admit, retire, onTicket, reporting, Answer, ofAdmit, number}
 use Rattle.book.specs.Book.{Book, setIsFull, admitted, keyRetired, bookStepped, admitNumber, retireNumber, ticketNumber, bookDoes}
-use Rattle.book.specs.History.{Event, event, trace, final, filtered, admissionsOf, ticketsOf, keyIdsOf}
-use Rattle.book.specs.Counts.{admissionsOfKey, ticketsGiven, countingFrom}
+use Rattle.book.specs.History.{Event, event, trace, final, filtered, isAccepted, admissionsOf, ticketsOf}
+use mathlib.Core.Bool.{Bool, false}
+use Rattle.book.specs.Counts.{namesKey, admissionsOfKey, ticketsGiven, countingFrom}
 use Rattle.book.proofs.Accepting.{unless-kept, Admitted, admit-accepted}
 use Rattle.book.proofs.KeyCounts.{ids, key-itself, key-changed, number-kept, used-ids, retired-ids, same-id, same-length, place-of-id}
 use Rattle.book.proofs.Sound.{Sound, sound-kept}
@@ -42,18 +42,18 @@ unfolding final
 ids-after b [] = refl
 ids-after b (call ∷ calls) = ids-after (bookDoes b call .state) calls ∙ ids-kept b call
 
--- what an answer adds to the count of the key that has the id
-abbrev gain : Answer → ℕ → ℕ
-gain answer id = pick (among (keyIdsOf answer) id) 1 0
+-- what a call with its answer adds to the count of the key that has the id
+abbrev gain : Call → Answer → ℕ → ℕ
+gain call answer id = pick (eqb (number answer) 0 and namesKey id call) 1 0
 
 -- admit adds one to the count of the key that it names, the other calls nothing
-admit-gains : (request : List ℕ) (b : Book) (n place : ℕ) → Sound b → (n ≡ 0 → Admitted (b .registry) (setIsFull b) request)
+admit-gains : (request info : List ℕ) (b : Book) (n place : ℕ) → Sound b → (n ≡ 0 → Admitted (b .registry) (setIsFull b) request)
     → place < length (b .registry .keys)
     → keyAt (unlessRefused n (admitted request b) b .registry .keys) place .count
     ≡ keyAt (b .registry .keys) place .count
-    + gain (ofAdmit (admitAnswer n (b .registry .lastTicket + 1) request)) (keyAt (b .registry .keys) place .id)
-unfolding anyPasses admissionsOf
-admit-gains request b zero place s accepted inside =
+    + gain (admit request info) (ofAdmit (admitAnswer n (b .registry .lastTicket + 1) request)) (keyAt (b .registry .keys) place .id)
+unfolding number
+admit-gains request info b zero place s accepted inside =
     let keys = b .registry .keys in
     let named = placeOfKey (keyIdOf request) keys in
     either (eqb (keyIdOf request) (keyAt keys place .id))
@@ -67,30 +67,31 @@ admit-gains request b zero place s accepted inside =
     (sym (rw here (eqb-true (keyAt keys named .id) (keyIdOf request)
     (first-passes noKey (hasId (keyIdOf request)) keys (accepted refl .inside))))) in
     rw (e, key-changed withUse named place keys apart) (omega arith))
-admit-gains request b (suc n) place s accepted inside = omega arith
+admit-gains request info b (suc n) place s accepted inside = rw (eqb·suc-zero n) (omega arith)
 
-no-gain : (n : ℕ) (b c : Book) (place : ℕ) → keyAt (c .registry .keys) place .count ≡ keyAt (b .registry .keys) place .count
-    → keyAt (unlessRefused n c b .registry .keys) place .count ≡ keyAt (b .registry .keys) place .count + 0
-no-gain zero b c place e = omega arith
-no-gain (suc n) b c place e = omega arith
+no-gain : (n : ℕ) (accepted : Bool) (b c : Book) (place : ℕ)
+    → keyAt (c .registry .keys) place .count ≡ keyAt (b .registry .keys) place .count
+    → keyAt (unlessRefused n c b .registry .keys) place .count ≡ keyAt (b .registry .keys) place .count + pick (accepted and false) 1 0
+no-gain zero accepted b c place e = rw (and-false accepted false refl) (omega arith)
+no-gain (suc n) accepted b c place e = rw (and-false accepted false refl) (omega arith)
 
 gains : (b : Book) (call : Call) (place : ℕ) → Sound b → place < length (b .registry .keys)
     → keyAt (bookDoes b call .state .registry .keys) place .count
-    ≡ keyAt (b .registry .keys) place .count + gain (bookDoes b call .answer) (keyAt (b .registry .keys) place .id)
-unfolding bookDoes admissionsOf anyPasses
+    ≡ keyAt (b .registry .keys) place .count + gain call (bookDoes b call .answer) (keyAt (b .registry .keys) place .id)
+unfolding bookDoes number
 gains b (admit request info) place s inside =
-    admit-gains request b (admitNumber request info b) place s (admit-accepted (b .registry) (setIsFull b) request (length info)) inside
+    admit-gains request info b (admitNumber request info b) place s (admit-accepted (b .registry) (setIsFull b) request (length info)) inside
 gains b (retire id) place s inside =
-    no-gain (retireNumber id b) b (keyRetired id b) place
+    no-gain (retireNumber id b) (eqb (number (bookDoes b (retire id) .answer)) 0) b (keyRetired id b) place
     (number-kept (λ (key : Key). key .count) withRetirement (placeOfKey id (b .registry .keys)) place (b .registry .keys) refl)
-gains b (onTicket ticket step) place s inside = no-gain (ticketNumber ticket step b) b (bookStepped ticket step b) place refl
+gains b (onTicket ticket step) place s inside = no-gain (ticketNumber ticket step b) (eqb (number (bookDoes b (onTicket ticket step) .answer)) 0) b (bookStepped ticket step b) place refl
 gains b reporting place s inside = omega arith
 
 -- the counts along a history
-admissions-more : (id : ℕ) (e : Event) (es : List Event) → admissionsOfKey id (e ∷ es) ≡ gain (e .answer) id + admissionsOfKey id es
+admissions-more : (id : ℕ) (e : Event) (es : List Event) → admissionsOfKey id (e ∷ es) ≡ gain (e .call) (e .answer) id + admissionsOfKey id es
 unfolding filtered
 admissions-more id e es =
-    either (among (keyIdsOf (e .answer)) id) (λ t. rw t (omega arith)) (λ t. rw t (omega arith))
+    either (isAccepted e and namesKey id (e .call)) (λ t. rw t (omega arith)) (λ t. rw t (omega arith))
 
 pub counted : (b : Book) (calls : List Call) (place : ℕ) → Sound b → place < length (b .registry .keys)
     → keyAt (final bookDoes b calls .registry .keys) place .count

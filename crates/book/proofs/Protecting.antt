@@ -1,45 +1,48 @@
--- What goes out unprotected: a refused admit and a failed opening, and nothing after opening.
+-- What goes out unprotected: of a refused admit and of a failed opening, and nothing of an exchange that is not asked.
 -- Assumes nothing.
-use mathlib.Core.Path.{_≡_, refl, sym, _∙_}
+use mathlib.Core.Path.{_≡_, refl}
 use mathlib.Core.Bool.{Bool, true, false}
 use mathlib.Core.List.{List}
-use Prim.Native.Nat.{ℕ, zero, suc, _≤_}
+use Prim.Native.Nat.{ℕ, zero, suc}
 use native.Mathlib.Omega.{arith}
-use borrow.Author.Tests.{eqb-true, ne-eqb}
-use lib.Dec.{eqb}
-use Rattle.wire.proofs.Booleans.{either, true-or-false}
+use Rattle.wire.specs.Refusals.{unlessRefused}
+use Rattle.wire.proofs.Booleans.{either}
 use Rattle.exchange.specs.declared.Exchange.{Exchange}
-use Rattle.exchange.specs.Exchange.{isFree, isAsked, isOpened, exchangeOf, askedPhase, openedPhase}
+use Rattle.exchange.specs.Exchange.{isFree, isAsked, exchangeOf}
 use Rattle.exchange.specs.Steps.{Step, openResult, respond, abandon, refusal, openAnswer, ofOpen, answer}
-use Rattle.gateway.specs.declared.Gateway.{Gateway}
 use Rattle.gateway.specs.Registry.{statusOf, admitAnswer}
 use Rattle.gateway.specs.Gateway.{nextTicket}
-use Rattle.gateway.specs.Calls.{Call, admit, retire, onTicket, reporting, ofAdmit, ofStep, unprotectedStatus, gatewayDoes, admitNumber}
-use Rattle.book.specs.History.{gatewayAfter}
-use Rattle.book.specs.OneCall.{Unprotected, isBeforeOpening}
-use Rattle.book.proofs.Numbers.{admit-number, step-number}
+use Rattle.gateway.specs.Calls.{admit, retire, onTicket, reporting, ofAdmit, ofStep, unprotectedStatus, gatewayDoes, admitNumber}
+use Rattle.book.specs.OneCall.{UnprotectedExactly}
 
--- every refusal of admit has a status
-status-there : (n : ℕ) → 400 ≤ statusOf n
-status-there n =
-    either (eqb n 2) (λ e. rw e (omega arith))
-    (λ a. either (eqb n 9) (λ e. rw (a, e) (omega arith))
-    (λ b. either (eqb n 14) (λ e. rw (a, b, e) (omega arith)) (λ e. rw (a, b, e) (omega arith))))
-
-refused-status : (n ticket : ℕ) (request : List ℕ) → (n ≡ 0 → ⊥) → 400 ≤ unprotectedStatus (ofAdmit (admitAnswer n ticket request))
+-- the status of a refused admit
+admit-status : (n ticket : ℕ) (request : List ℕ) → unprotectedStatus (ofAdmit (admitAnswer n ticket request)) ≡ unlessRefused n 0 (statusOf n)
 unfolding unprotectedStatus
-refused-status zero ticket request h = absurd (h refl)
-refused-status (suc n) ticket request h = status-there (suc n)
+admit-status zero ticket request = refl
+admit-status (suc n) ticket request = refl
 
-failed-status : (n : ℕ) (e : Exchange) → refusal (openResult false n) e ≡ 0
-    → unprotectedStatus (ofStep (answer (openResult false n) e)) ≡ 422
-unfolding unprotectedStatus answer
-failed-status n e z = rw z
-
-refused-opening : (n : ℕ) (success : Bool) → (n ≡ 0 → ⊥) → unprotectedStatus (ofStep (ofOpen (openAnswer n success))) ≡ 0
+-- of a failed opening, and of a successful one
+failed-status : (n : ℕ) → unprotectedStatus (ofStep (ofOpen (openAnswer n false))) ≡ unlessRefused n 422 0
 unfolding unprotectedStatus
-refused-opening zero success h = absurd (h refl)
-refused-opening (suc n) success h = refl
+failed-status zero = refl
+failed-status (suc n) = refl
+
+opened-status : (n : ℕ) → unprotectedStatus (ofStep (ofOpen (openAnswer n true))) ≡ 0
+unfolding unprotectedStatus
+opened-status zero = refl
+opened-status (suc n) = refl
+
+pub unprotected-exactly : UnprotectedExactly
+unfolding gatewayDoes unprotectedStatus answer
+unprotected-exactly g (admit request info) = admit-status (admitNumber request info g) (nextTicket g) request
+unprotected-exactly g (retire id) = refl
+unprotected-exactly g (onTicket ticket (openResult true n)) =
+    opened-status (refusal (openResult true n) (exchangeOf ticket (g .table)))
+unprotected-exactly g (onTicket ticket (openResult false n)) =
+    failed-status (refusal (openResult false n) (exchangeOf ticket (g .table)))
+unprotected-exactly g (onTicket ticket (respond enc nonce plain salt)) = refl
+unprotected-exactly g (onTicket ticket abandon) = refl
+unprotected-exactly g reporting = refl
 
 -- an exchange that is not asked is not opened
 not-asked-refuses : (success : Bool) (n : ℕ) (e : Exchange) → isAsked e ≡ false → refusal (openResult success n) e ≡ 0 → ⊥
@@ -47,32 +50,14 @@ unfolding refusal
 not-asked-refuses success n e other z =
     either (isFree e) (λ f. omega (arith, rw f at z)) (λ f. omega (arith, rw (f, other) at z))
 
+refused-opening : (n : ℕ) (success : Bool) → (n ≡ 0 → ⊥) → unprotectedStatus (ofStep (ofOpen (openAnswer n success))) ≡ 0
+unfolding unprotectedStatus
+refused-opening zero success h = absurd (h refl)
+refused-opening (suc n) success h = refl
+
 -- and nothing of it goes out
-not-asked-silent : (step : Step) (e : Exchange) → isAsked e ≡ false → unprotectedStatus (ofStep (answer step e)) ≡ 0
+pub not-asked-silent : (step : Step) (e : Exchange) → isAsked e ≡ false → unprotectedStatus (ofStep (answer step e)) ≡ 0
 unfolding answer unprotectedStatus
 not-asked-silent (openResult success n) e o = refused-opening _ success (not-asked-refuses success n e o)
 not-asked-silent (respond enc nonce plain salt) e o = refl
 not-asked-silent abandon e o = refl
-
-opened-not-asked : (e : Exchange) → isOpened e ≡ true → isAsked e ≡ false
-opened-not-asked e o =
-    ne-eqb (e .phase .0) askedPhase (λ a. let p = eqb-true (e .phase .0) openedPhase o in omega arith)
-
-nothing-else : (g : Gateway) (call : Call) → isBeforeOpening g call ≡ false → unprotectedStatus (gatewayDoes g call .answer) ≡ 0
-unfolding gatewayDoes unprotectedStatus
-nothing-else g (admit request info) h = absurd (true-or-false refl h)
-nothing-else g (retire id) h = refl
-nothing-else g (onTicket ticket step) h = not-asked-silent step (exchangeOf ticket (g .table)) h
-nothing-else g reporting h = refl
-
-pub unprotected : Unprotected
-unfolding gatewayDoes
-unprotected =
-    record {
-      refusedAdmit = λ g request info h. refused-status (admitNumber request info g) (nextTicket g) request (λ z. h (admit-number (admitNumber request info g) (nextTicket g) request ∙ z));
-      failedOpening = λ g ticket n z. failed-status n (exchangeOf ticket (g .table)) (sym (step-number (openResult false n) (exchangeOf ticket (g .table))) ∙ z);
-      nothingElse = nothing-else;
-      afterOpening = λ list cap calls ticket step o.
-          let e = exchangeOf ticket (gatewayAfter list cap calls .table) in
-          not-asked-silent step e (opened-not-asked e o);
-    }

@@ -9,7 +9,7 @@ use lib.ListN.{length, getD, set, length-set}
 use lib.Seq.{set-getD}
 use Rattle.wire.specs.Refusals.{unlessRefused}
 use Rattle.wire.specs.Search.{firstPlace}
-use Rattle.book.proofs.Placing.{place-is-free}
+use Rattle.book.proofs.Placing.{place-inside, place-free}
 use Rattle.exchange.specs.declared.Exchange.{Exchange}
 use Rattle.exchange.specs.Request.{keyIdOf, fieldsOf}
 use Rattle.exchange.specs.Exchange.{free, hasTicket, exchangeOf, asked}
@@ -100,7 +100,7 @@ admitted-alike request g b r a =
           rw (next-told g b r)
           (List·Permᴰ·trans
           (admitted-in-table new (g .table) (freePlace (g .table)) (ne-eqb (b .registry .lastTicket + 1) 0 (omega arith))
-          (place-is-free .inside (g .table) room) (place-is-free .wasFree (g .table) room))
+          (place-inside (g .table) room) (place-free (g .table) room))
           (Permᴰ·append-right (new ∷ []) (r .pending)));
     }
 

@@ -6,7 +6,6 @@ use lib.Dec.{leb}
 use lib.ListN.{length}
 use Rattle.wire.specs.Tests.{pick}
 use Rattle.wire.specs.Refusals.{unlessRefused, written}
-use Rattle.keylist.specs.Layout.{parse}
 use Rattle.exchange.specs.declared.Exchange.{Exchange}
 use Rattle.exchange.specs.Request.{keyIdOf, fieldsOf, infoOf}
 use Rattle.exchange.specs.Exchange.{isFree, hasTicket, exchangeOf, asked}

@@ -1,20 +1,30 @@
 -- Demand 2, "A key's count is the number of admissions it was given", over every list of calls; tickets; and that nothing wraps.
 use Prim.Native.Nat.{ℕ, zero, suc, _+_, _*_, _≤_, _<_}
+use mathlib.Core.Bool.{Bool, false}
 use mathlib.Core.Path.{_≡_}
 use mathlib.Core.List.{List, [], _∷_, _++_}
+use lib.Dec.{eqb}
 use lib.ListN.{length}
-use Rattle.wire.specs.Search.{among}
+use Rattle.wire.specs.Tests.{_and_}
 use Rattle.keylist.specs.Layout.{mostConfigurations}
+use Rattle.exchange.specs.Request.{keyIdOf}
 use Rattle.keys.specs.Keys.{Key, keyAt}
 use Rattle.keys.specs.Stored.{oneMore}
 use Rattle.gateway.specs.Registry.{Registry, mostUses}
 use Rattle.gateway.specs.Gateway.{registryOf, nextTicket}
-use Rattle.gateway.specs.Calls.{Call}
-use Rattle.book.specs.History.{Event, filtered, ticketsOf, keyIdsOf, gatewayTrace, gatewayAfter}
+use Rattle.gateway.specs.Calls.{Call, admit, retire, onTicket, reporting}
+use Rattle.book.specs.History.{Event, filtered, isAccepted, ticketsOf, gatewayTrace, gatewayAfter}
+
+-- a request to admit that names the key
+abbrev pub namesKey : ℕ → Call → Bool
+namesKey id (admit request info) = eqb (keyIdOf request) id
+namesKey id (retire other) = false
+namesKey id (onTicket ticket step) = false
+namesKey id reporting = false
 
 -- the number of accepted admissions that name the key
 abbrev pub admissionsOfKey : ℕ → List Event → ℕ
-admissionsOfKey id events = length (filtered (λ e. among (keyIdsOf (e .answer)) id) events)
+admissionsOfKey id events = length (filtered (λ e. isAccepted e and namesKey id (e .call)) events)
 
 -- the tickets that admissions were given, in their order
 unfoldable pub ticketsGiven : List Event → List ℕ

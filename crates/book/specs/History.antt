@@ -4,7 +4,6 @@ use mathlib.Core.Bool.{Bool}
 use mathlib.Core.List.{List, [], _∷_, map}
 use lib.Dec.{eqb}
 use Rattle.wire.specs.Tests.{pick}
-use Rattle.keylist.specs.Layout.{parse}
 use Rattle.gateway.specs.declared.Gateway.{Gateway}
 use Rattle.gateway.specs.declared.AdmitAnswer.{AdmitAnswer}
 use Rattle.gateway.specs.declared.admission.Admission.{Admission}
@@ -53,9 +52,6 @@ admissionsOf (ofRetire r) = []
 admissionsOf (ofStep r) = []
 admissionsOf (ofReport r) = []
 
--- its ticket and its key id
+-- its ticket
 abbrev pub ticketsOf : Answer → List ℕ
 ticketsOf answer = map (λ (a : Admission). a .ticket .0) (admissionsOf answer)
-
-abbrev pub keyIdsOf : Answer → List ℕ
-keyIdsOf answer = map (λ (a : Admission). a .«key_id» .0) (admissionsOf answer)

@@ -10,7 +10,6 @@ use Rattle.wire.specs.Search.{firstPlace}
 use Rattle.exchange.specs.declared.Exchange.{Exchange}
 use Rattle.exchange.specs.Exchange.{free, hasTicket}
 use Rattle.exchange.specs.Steps.{Step, openResult, respond, abandon}
-use Rattle.gateway.specs.declared.Gateway.{Gateway}
 use Rattle.gateway.specs.Gateway.{registryOf}
 use Rattle.gateway.specs.Calls.{Call, onTicket, number, unprotectedStatus, gatewayDoes}
 use Rattle.book.specs.History.{gatewayAfter}

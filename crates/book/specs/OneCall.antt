@@ -1,22 +1,24 @@
 -- What holds of one call: a refusal changes nothing, when an exchange is admitted, what goes out unprotected, and the place of a new
 -- exchange.
-use Prim.Native.Nat.{ℕ, _+_, _≤_, _<_}
+use Prim.Native.Nat.{ℕ, _≤_, _<_}
 use mathlib.Core.Path.{_≡_}
 use mathlib.Core.Logic.{_↔_}
-use mathlib.Core.Bool.{Bool, true, false}
+use mathlib.Core.Bool.{true, false}
 use mathlib.Core.List.{List, []}
-use lib.ListN.{length, getD, set}
-use Rattle.wire.specs.Texts.{headLength, infoLength}
-use Rattle.algorithms.specs.Sizes.{knownKem, knownKdf, knownAead, encLength, tagLength}
+use lib.ListN.{length, getD}
+use Rattle.wire.specs.Refusals.{unlessRefused}
+use Rattle.wire.specs.Texts.{infoLength}
+use Rattle.algorithms.specs.Sizes.{knownKem, knownKdf, knownAead, shortestRequest}
 use Rattle.exchange.specs.declared.Exchange.{Exchange}
-use Rattle.exchange.specs.Request.{longestRequest, keyIdOf, kemOf, kdfOf, aeadOf}
-use Rattle.exchange.specs.Exchange.{free, isFree, isAsked, isOpened, exchangeOf}
-use Rattle.exchange.specs.Steps.{Step, openResult, respond, abandon}
+use Rattle.exchange.specs.Request.{longestRequest, keyIdOf, kemOf, kdfOf, aeadOf, fieldsOf}
+use Rattle.exchange.specs.Exchange.{free, isFree, asked, exchangeOf}
+use Rattle.exchange.specs.Steps.{openResult, respond, abandon, refusal}
 use Rattle.keys.specs.Keys.{keyAt}
 use Rattle.keys.specs.Stored.{noPair}
 use Rattle.gateway.specs.declared.Gateway.{Gateway}
-use Rattle.gateway.specs.Gateway.{registryOf, freePlace, isFull}
-use Rattle.gateway.specs.Calls.{Call, admit, retire, onTicket, reporting, number, unprotectedStatus, gatewayDoes}
+use Rattle.gateway.specs.Registry.{statusOf}
+use Rattle.gateway.specs.Gateway.{registryOf, nextTicket}
+use Rattle.gateway.specs.Calls.{Call, admit, retire, onTicket, reporting, number, unprotectedStatus, gatewayDoes, admitNumber}
 use Rattle.book.specs.History.{gatewayAfter}
 
 -- the bytes of the buffer that a call lends
@@ -38,8 +40,8 @@ RefusalChangesNothing =
 -- offers, and there is a use, a free place and buffer for the info."
 pub record WellFormed (request : List ℕ) : Type 0 where
   pub kem : knownKem (kemOf request) ≡ true
-  pub whole : headLength + encLength (kemOf request) + tagLength ≤ length request
-  pub short : length request ≤ longestRequest
+  pub longEnough : shortestRequest (kemOf request) ≤ length request
+  pub notTooLong : length request ≤ longestRequest
 
 -- an element of a list
 abbrev pub IsElement : {A : Type 0} → A → List A → A → Type 0
@@ -67,29 +69,32 @@ AdmissionExactly =
     → (number (gatewayDoes (gatewayAfter list cap calls) (admit request info) .answer) ≡ 0)
     ↔ Admissible (gatewayAfter list cap calls) request info
 
--- the calls whose answer may go out unprotected: admit, and a call on an exchange that is not opened yet
-abbrev pub isBeforeOpening : Gateway → Call → Bool
-isBeforeOpening g (admit request info) = true
-isBeforeOpening g (retire id) = false
-isBeforeOpening g (onTicket ticket step) = isAsked (exchangeOf ticket (g .table))
-isBeforeOpening g reporting = false
+-- "Errors found before or at opening go out unprotected, later ones only sealed"; "no other call's refusal sends anything": the
+-- status that goes out unprotected, 0 where nothing does. It is that of a refused admit, and 422 of a failed opening.
+abbrev pub unprotectedFor : Gateway → Call → ℕ
+unprotectedFor g (admit request info) = unlessRefused (admitNumber request info g) 0 (statusOf (admitNumber request info g))
+unprotectedFor g (retire id) = 0
+unprotectedFor g (onTicket ticket (openResult true n)) = 0
+unprotectedFor g (onTicket ticket (openResult false n)) =
+    unlessRefused (refusal (openResult false n) (exchangeOf ticket (g .table))) 422 0
+unprotectedFor g (onTicket ticket (respond enc nonce plain salt)) = 0
+unprotectedFor g (onTicket ticket abandon) = 0
+unprotectedFor g reporting = 0
 
--- "Errors found before or at opening go out unprotected, later ones only sealed"
-pub record Unprotected : Type 0 where
-  pub refusedAdmit : (g : Gateway) (request info : List ℕ) → (number (gatewayDoes g (admit request info) .answer) ≡ 0 → ⊥)
-      → 400 ≤ unprotectedStatus (gatewayDoes g (admit request info) .answer)
-  pub failedOpening : (g : Gateway) (ticket n : ℕ) → number (gatewayDoes g (onTicket ticket (openResult false n)) .answer) ≡ 0
-      → unprotectedStatus (gatewayDoes g (onTicket ticket (openResult false n)) .answer) ≡ 422
-  pub nothingElse : (g : Gateway) (call : Call) → isBeforeOpening g call ≡ false
-      → unprotectedStatus (gatewayDoes g call .answer) ≡ 0
-  -- over every history: no call on an opened exchange
-  pub afterOpening : (list : List ℕ) (cap : ℕ) (calls : List Call) (ticket : ℕ) (step : Step)
-      → isOpened (exchangeOf ticket (gatewayAfter list cap calls .table)) ≡ true
-      → unprotectedStatus (gatewayDoes (gatewayAfter list cap calls) (onTicket ticket step) .answer) ≡ 0
+-- for every gateway and every call
+abbrev pub UnprotectedExactly : Type 0
+UnprotectedExactly = (g : Gateway) (call : Call) → unprotectedStatus (gatewayDoes g call .answer) ≡ unprotectedFor g call
 
--- 01's open point: the place of a new exchange was free, and every other place keeps what it had
-pub record PlaceIsFree : Type 0 where
-  pub inside : (table : List Exchange) → isFull table ≡ false → freePlace table < length table
-  pub wasFree : (table : List Exchange) → isFull table ≡ false → isFree (getD table (freePlace table) free) ≡ true
-  pub others : (table : List Exchange) (e : Exchange) (place : ℕ) → (place ≡ freePlace table → ⊥)
-      → getD (set table (freePlace table) e) place free ≡ getD table place free
+-- 01's open point: the new exchange stands at a place that was free, and every other place keeps what it had
+pub record NewPlace (before after : List Exchange) (new : Exchange) : Type 0 where
+  pub place : ℕ
+  pub inside : place < length before
+  pub wasFree : isFree (getD before place free) ≡ true
+  pub holdsNew : getD after place free ≡ new
+  pub others : (other : ℕ) → (other ≡ place → ⊥) → getD after other free ≡ getD before other free
+
+-- for every accepted admit
+abbrev pub PlaceIsFree : Type 0
+PlaceIsFree =
+    (g : Gateway) (request info : List ℕ) → number (gatewayDoes g (admit request info) .answer) ≡ 0
+    → NewPlace (g .table) (gatewayDoes g (admit request info) .state .table) (asked (nextTicket g) (fieldsOf request))
