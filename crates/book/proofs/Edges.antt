@@ -36,7 +36,14 @@ gateway-edges =
       count = refl;
       lastTicket = refl;
       nonePending = refl;
-      openLength = refl;
+      tooLong = refl;
+      stillAsked = refl;
+      opened = refl;
+      beforeOpening = refl;
+      afterClosing = refl;
+      ticketZero = refl;
+      statuses = refl;
+      keyProblems = refl;
     }
 
 pub moved-example : MovedExample

@@ -14,6 +14,9 @@ pub mod Sound
 pub mod Refining
 pub mod Refinement
 pub mod Admission
+-- tickets over every history:
+pub mod Tickets
+pub mod Lifecycle
 -- counts and tickets:
 pub mod Counting
 pub mod Counts

@@ -48,7 +48,7 @@ last-alike g b r = ap (λ (h : Registry). h .lastTicket) (r .registry)
 full-told : (g : Gateway) (b : Book) → Alike g b → isFull (g .table) ≡ setIsFull b
 full-told g b r = rw (full-alike (g .table), r .places, length-permuted (r .pending))
 
-found-told : (ticket : ℕ) (g : Gateway) (b : Book) → Alike g b → exchangeOf ticket (g .table) ≡ exchangeOf ticket (b .pending)
+pub found-told : (ticket : ℕ) (g : Gateway) (b : Book) → Alike g b → exchangeOf ticket (g .table) ≡ exchangeOf ticket (b .pending)
 found-told ticket g b r =
     sym (found-pending ticket (g .table))
     ∙ found-permuted ticket (r .pending) (rw (passing-permuted (hasTicket ticket) (r .pending)) (r .sound .once ticket))

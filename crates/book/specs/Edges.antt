@@ -1,14 +1,17 @@
 -- 01, "Edges": the starred ones, with those of key lists (keylist's `ListEdges`) one computed statement about the definitions.
 use Prim.Native.Nat.{ℕ}
-use mathlib.Core.Bool.{true}
+use mathlib.Core.Bool.{true, false}
 use mathlib.Core.Path.{_≡_}
 use mathlib.Core.List.{List, [], _∷_, _++_, map}
 use lib.ListN.{replicate}
 use Rattle.wire.specs.Texts.{headBytes}
 use Rattle.keylist.specs.Edges.{edgeList, hex, ListEdges}
-use Rattle.exchange.specs.Steps.{openResult, respond}
+use Rattle.exchange.specs.declared.Exchange.{Exchange}
+use Rattle.exchange.specs.Exchange.{askedPhase, openedPhase}
+use Rattle.exchange.specs.Steps.{openResult, respond, abandon}
 use Rattle.keys.specs.Keys.{Key}
 use Rattle.gateway.specs.declared.AdmitAnswer.{AdmitAnswer}
+use Rattle.gateway.specs.Registry.{statusOf, isKeyProblem}
 use Rattle.gateway.specs.Gateway.{registryOf, pendingIn}
 use Rattle.gateway.specs.Calls.{Call, admit, retire, onTicket, reporting, number, ofAdmit}
 use Rattle.book.specs.History.{Event, trace, gatewayTrace, gatewayAfter}
@@ -39,9 +42,13 @@ responding ticket = onTicket ticket (respond (replicate 32 0x22) (replicate 32 0
 abbrev pub numbers : List Call → List ℕ
 numbers calls = map (λ (e : Event). number (e .answer)) (gatewayTrace edgeList 2 calls)
 
+-- the states of the pending exchanges after the calls
+abbrev pub phases : List Call → List ℕ
+phases calls = map (λ (e : Exchange). e .phase .0) (pendingIn (gatewayAfter edgeList 2 calls .table))
+
 -- two admissions; ticket 2 is opened and answered before 1
-abbrev pub turnedRound : List Call
-turnedRound =
+abbrev pub answeredInReverse : List Call
+answeredInReverse =
     asking goodRequest
     ∷ asking goodRequest
     ∷ asking goodRequest
@@ -77,15 +84,26 @@ pub record GatewayEdges : Type 0 where
   pub otherPair : numbers (asking (request 0x0020 1 1 48) ∷ []) ≡ 6 ∷ []
   pub otherKem : numbers (asking (request 0x0010 1 3 81) ∷ []) ≡ 5 ∷ []
   -- cap 2: tickets 1 and 2, the third 8; at the end count 2, last ticket 2, none pending
-  pub capTwo : numbers turnedRound ≡ 0 ∷ 0 ∷ 8 ∷ 0 ∷ 0 ∷ 0 ∷ 0 ∷ []
-  pub tickets : ticketsGiven (gatewayTrace edgeList 2 turnedRound) ≡ 1 ∷ 2 ∷ []
-  pub count : map (λ (key : Key). key .count) (registryOf (gatewayAfter edgeList 2 turnedRound) .keys) ≡ 2 ∷ []
-  pub lastTicket : registryOf (gatewayAfter edgeList 2 turnedRound) .lastTicket ≡ 2
-  pub nonePending : pendingIn (gatewayAfter edgeList 2 turnedRound .table) ≡ []
-  -- n one too large: 13, still asked; respond before opening: 12; the right n; after closing 11; ticket 0: 11
-  pub openLength :
-      numbers (asking goodRequest ∷ opening 1 1 ∷ responding 1 ∷ opening 1 0 ∷ responding 1 ∷ responding 1 ∷ opening 0 0 ∷ [])
-      ≡ 0 ∷ 13 ∷ 12 ∷ 0 ∷ 0 ∷ 11 ∷ 11 ∷ []
+  pub capTwo : numbers answeredInReverse ≡ 0 ∷ 0 ∷ 8 ∷ 0 ∷ 0 ∷ 0 ∷ 0 ∷ []
+  pub tickets : ticketsGiven (gatewayTrace edgeList 2 answeredInReverse) ≡ 1 ∷ 2 ∷ []
+  pub count : map (λ (key : Key). key .count) (registryOf (gatewayAfter edgeList 2 answeredInReverse) .keys) ≡ 2 ∷ []
+  pub lastTicket : registryOf (gatewayAfter edgeList 2 answeredInReverse) .lastTicket ≡ 2
+  pub nonePending : pendingIn (gatewayAfter edgeList 2 answeredInReverse .table) ≡ []
+  -- n one too large: 13, still asked; then the right n: opened
+  pub tooLong : numbers (asking goodRequest ∷ opening 1 1 ∷ []) ≡ 0 ∷ 13 ∷ []
+  pub stillAsked : phases (asking goodRequest ∷ opening 1 1 ∷ []) ≡ askedPhase ∷ []
+  pub opened : phases (asking goodRequest ∷ opening 1 1 ∷ opening 1 0 ∷ []) ≡ openedPhase ∷ []
+  -- respond before that: 12; after closing: 11; ticket 0: 11
+  pub beforeOpening : numbers (asking goodRequest ∷ responding 1 ∷ []) ≡ 0 ∷ 12 ∷ []
+  pub afterClosing : numbers (asking goodRequest ∷ opening 1 0 ∷ responding 1 ∷ responding 1 ∷ []) ≡ 0 ∷ 0 ∷ 0 ∷ 11 ∷ []
+  pub ticketZero : numbers (opening 0 0 ∷ responding 0 ∷ onTicket 0 abandon ∷ []) ≡ 11 ∷ 11 ∷ 11 ∷ []
+  -- 01, "Refusal numbers", the last column for admit's numbers in their order
+  pub statuses :
+      map statusOf (2 ∷ 1 ∷ 3 ∷ 4 ∷ 5 ∷ 6 ∷ 7 ∷ 8 ∷ 9 ∷ 14 ∷ [])
+      ≡ 413 ∷ 400 ∷ 400 ∷ 400 ∷ 400 ∷ 400 ∷ 400 ∷ 400 ∷ 503 ∷ 500 ∷ []
+  pub keyProblems :
+      map isKeyProblem (2 ∷ 1 ∷ 3 ∷ 4 ∷ 5 ∷ 6 ∷ 7 ∷ 8 ∷ 9 ∷ 14 ∷ [])
+      ≡ false ∷ false ∷ false ∷ true ∷ true ∷ true ∷ true ∷ true ∷ false ∷ false ∷ []
 
 -- Demand 3 on one list of calls, computed: two exchanges of which the second is answered first, a report, a retirement, and an
 -- admission that is refused after it.

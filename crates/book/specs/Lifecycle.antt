@@ -44,6 +44,8 @@ pub record Lifecycle (list : List ℕ) (cap : ℕ) (calls : List Call) (ticket :
       → number
       (gatewayDoes (gatewayAfter list cap (calls ++ onTicket ticket step ∷ between)) (onTicket ticket later) .answer)
       ≡ 11
+  pub placeInside : (step : Step) → IsAccepted list cap calls ticket step
+      → firstPlace (hasTicket ticket) (gatewayAfter list cap calls .table) < length (gatewayAfter list cap calls .table)
   pub placeFree : (step : Step) → closes step ≡ true → IsAccepted list cap calls ticket step
       → getD (gatewayAfter list cap (calls ++ onTicket ticket step ∷ []) .table)
       (firstPlace (hasTicket ticket) (gatewayAfter list cap calls .table)) free
