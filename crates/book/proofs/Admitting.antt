@@ -129,7 +129,7 @@ admissible g request info e =
           listed-pair (kdfOf request) (aeadOf request) (keyAt keys place .pairs)
           (and-right (knownPair (kdfOf request) (aeadOf request)) (anyPasses (isPair (kdfOf request) (aeadOf request)) (keyAt keys place .pairs)) (u .pair));
       uses = u .uses;
-      freeTable = (freePlace (g .table), place-inside (g .table) (c .0), place-free (g .table) (c .0));
+      freePlaceThere = (freePlace (g .table), place-inside (g .table) (c .0), place-free (g .table) (c .0));
       room = ltb-false (length info) infoLength (d .0);
     }
 
@@ -145,5 +145,5 @@ admitted-then g request info h first =
     (request-accepted request (h .wellFormed .kem) (h .wellFormed .longEnough) (h .wellFormed .notTooLong))
     (rw first (both-none (keyRefusal (g .cap) keys (h .place) (fieldsOf request)) _
     (not-refused-by-key (g .cap) keys (h .place) (fieldsOf request) u)
-    (passed-on 9 (isFull (g .table)) _ (not-full (g .table) (h .freeTable .0) (h .freeTable .1) (h .freeTable .2))
+    (passed-on 9 (isFull (g .table)) _ (not-full (g .table) (h .freePlaceThere .0) (h .freeTable .1) (h .freeTable .2))
     (passed-on 14 (ltb (length info) infoLength) 0 (le-ltb (length info) infoLength (h .room)) refl))))

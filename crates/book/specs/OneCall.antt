@@ -59,7 +59,7 @@ pub record Admissible (g : Gateway) (request info : List ℕ) : Type 0 where
   pub aeadKnown : knownAead (aeadOf request) ≡ true
   pub pairOffered : IsElement noPair (keyAt (registryOf g .keys) place .pairs) (record { kdf = kdfOf request; aead = aeadOf request })
   pub uses : keyAt (registryOf g .keys) place .count < registryOf g .cap
-  pub freeTable : (p : ℕ) × (p < length (g .table)) × (isFree (getD (g .table) p free) ≡ true)
+  pub freePlaceThere : (p : ℕ) × (p < length (g .table)) × (isFree (getD (g .table) p free) ≡ true)
   pub room : infoLength ≤ length info
 
 -- for every gateway that calls reached

@@ -1,4 +1,4 @@
--- The gateway's state after each call. What it answers is in `Head` and in exchange's `Steps`.
+-- The gateway's state after each call. What it answers is in `Registry` and in exchange's `Steps`.
 use Prim.Native.Nat.{ℕ}
 use mathlib.Core.Bool.{Bool, not}
 use mathlib.Core.List.{List, [], _∷_}

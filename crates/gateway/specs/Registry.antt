@@ -19,6 +19,7 @@ use Rattle.gateway.specs.declared.AdmitAnswer.{AdmitAnswer}
 use Rattle.gateway.specs.declared.RetireAnswer.{RetireAnswer}
 use Rattle.gateway.specs.declared.Report.{Report}
 
+-- 01: the cap, the last ticket, and the keys in list order
 pub record Registry : Type 0 where
   pub cap : ℕ
   pub lastTicket : ℕ

@@ -73,7 +73,7 @@ keysFrom (bad r) = storedKeys []
 abbrev pub keysRead : Outcome (List Configuration) → KeysRead
 keysRead outcome = record { keys = keysFrom outcome; checked = checked outcome }
 
--- a number of so many bits that is one more, or stays where it is the largest; no number of a gateway that calls reached is
+-- one more, or the same where it is the largest number of so many bits; no number of a gateway that calls reached is the largest
 -- (`NothingWraps` of book)
 abbrev pub oneMore : ℕ → ℕ → ℕ
 oneMore bits n = min (n + 1) (2 ^ bits - 1)
