@@ -145,5 +145,5 @@ admitted-then g request info h first =
     (request-accepted request (h .wellFormed .kem) (h .wellFormed .longEnough) (h .wellFormed .notTooLong))
     (rw first (both-none (keyRefusal (g .cap) keys (h .place) (fieldsOf request)) _
     (not-refused-by-key (g .cap) keys (h .place) (fieldsOf request) u)
-    (passed-on 9 (isFull (g .table)) _ (not-full (g .table) (h .freePlaceThere .0) (h .freeTable .1) (h .freeTable .2))
+    (passed-on 9 (isFull (g .table)) _ (not-full (g .table) (h .freePlaceThere .0) (h .freePlaceThere .1) (h .freePlaceThere .2))
     (passed-on 14 (ltb (length info) infoLength) 0 (le-ltb (length info) infoLength (h .room)) refl))))
