@@ -121,7 +121,6 @@ example =
     ∷ []
 
 pub record MovedExample : Type 0 where
-  pub numbers : numbers example ≡ 0 ∷ 0 ∷ 0 ∷ 0 ∷ 0 ∷ 0 ∷ 0 ∷ 7 ∷ 0 ∷ []
   pub order :
       callsOf (movedList edgeList 2 example)
       ≡ asking goodRequest
@@ -134,5 +133,3 @@ pub record MovedExample : Type 0 where
       ∷ []
   pub sameAnswers :
       trace bookDoes (freshBook edgeList 2) (callsOf (movedList edgeList 2 example)) ≡ movedList edgeList 2 example
-  pub sameRegistry : registryOf (gatewayAfter edgeList 2 example) ≡ bookAfter edgeList 2 (callsOf (movedList edgeList 2 example)) .registry
-  pub nonePending : bookAfter edgeList 2 (callsOf (movedList edgeList 2 example)) .pending ≡ []
