@@ -11,7 +11,7 @@ use Rattle.wire.specs.Tests.{_and_}
 use Rattle.wire.specs.Refusals.{unlessRefused, written}
 use Rattle.wire.proofs.Booleans.{and-false}
 use Rattle.wire.proofs.Numbers.{unless-refused}
-use Rattle.exchange.specs.Request.{infoOf}
+use Rattle.request.specs.Request.{infoOf}
 use Rattle.exchange.specs.Exchange.{exchangeOf}
 use Rattle.exchange.specs.Steps.{answer, buffer}
 use Rattle.gateway.specs.Registry.{admitAnswer, retireAnswer, report}

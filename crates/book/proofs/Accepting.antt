@@ -9,7 +9,7 @@ use lib.Dec.{leb}
 use lib.ListN.{length}
 use Rattle.wire.specs.Refusals.{unlessRefused}
 use Rattle.wire.proofs.Numbers.{not-refused}
-use Rattle.exchange.specs.Request.{keyIdOf, fieldsOf, requestRefusal}
+use Rattle.request.specs.Request.{keyIdOf, fieldsOf, requestRefusal}
 use Rattle.keys.specs.Keys.{Key, placeOfKey, keyAt, keyRefusal, retireRefusal}
 use Rattle.gateway.specs.Registry.{Registry, admitRefusal}
 use Rattle.gateway.proofs.Deciding.{none-of-both}

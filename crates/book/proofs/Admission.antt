@@ -5,7 +5,7 @@ use mathlib.Core.List.{List}
 use Prim.Native.Nat.{ℕ}
 use lib.ListN.{length}
 use lib.Seq.{getD-set-same, getD-set-other}
-use Rattle.exchange.specs.Request.{keyIdOf, fieldsOf}
+use Rattle.request.specs.Request.{keyIdOf, fieldsOf}
 use Rattle.exchange.specs.Exchange.{free, asked}
 use Rattle.keys.specs.Keys.{placeOfKey}
 use Rattle.gateway.specs.declared.Gateway.{Gateway}

@@ -17,9 +17,9 @@ use Rattle.wire.proofs.Numbers.{not-refused, passed-on}
 use Rattle.algorithms.specs.Sizes.{knownPair, knownKdf, knownAead}
 use Rattle.keylist.specs.declared.Pair.{Pair}
 use Rattle.exchange.specs.declared.Exchange.{Exchange}
-use Rattle.exchange.specs.declared.request.Request.{Request}
-use Rattle.exchange.specs.Request.{keyIdOf, kdfOf, aeadOf, fieldsOf, requestRefusal}
-use Rattle.exchange.proofs.Requests.{accepted-request, request-accepted}
+use Rattle.request.specs.declared.Request.{Request}
+use Rattle.request.specs.Request.{keyIdOf, kdfOf, aeadOf, fieldsOf, requestRefusal}
+use Rattle.request.proofs.Requests.{accepted-request, request-accepted}
 use Rattle.exchange.specs.Exchange.{free, isFree}
 use Rattle.keys.specs.Keys.{Key, hasId, placeOfKey, keyAt, noKey, isPair, offers, keyRefusal}
 use Rattle.gateway.specs.declared.Gateway.{Gateway}

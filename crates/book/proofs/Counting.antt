@@ -12,7 +12,7 @@ use Rattle.wire.specs.Tests.{pick, _and_}
 use Rattle.wire.specs.Refusals.{unlessRefused}
 use Rattle.wire.proofs.Booleans.{either, and-false}
 use Rattle.wire.proofs.Matches.{first-passes}
-use Rattle.exchange.specs.Request.{keyIdOf}
+use Rattle.request.specs.Request.{keyIdOf}
 use Rattle.keys.specs.Keys.{Key, noKey, hasId, placeOfKey, keyAt, withUse, withRetirement}
 use Rattle.gateway.specs.Registry.{admitAnswer}
 use Rattle.gateway.specs.Calls.{Call, admit, retire, onTicket, reporting, Answer, ofAdmit, number}

@@ -8,7 +8,7 @@ use Rattle.algorithms.specs.Sizes.{knownKem, knownKdf, knownAead, encLength, pu
 use Rattle.keylist.specs.Layout.{parse, parseFrom, layoutHolds, configurationAt, pairsAt}
 use Rattle.keylist.specs.Edges.{hex, edgeList}
 use Rattle.keylist.proofs.Edges.{list-edges}
-use Rattle.exchange.specs.Request.{requestRefusal}
+use Rattle.request.specs.Request.{requestRefusal}
 use Rattle.exchange.specs.Steps.{refusal, respondRefusal, next, answer, buffer}
 use Rattle.keys.specs.Keys.{keyRefusal, retireRefusal}
 use Rattle.keys.specs.Stored.{keysOf, storedKeys}

@@ -13,7 +13,7 @@ use lib.ListN.{length}
 use Rattle.wire.specs.Search.{anyPasses}
 use Rattle.wire.proofs.Booleans.{either, true-or-false}
 use Rattle.exchange.specs.declared.Exchange.{Exchange}
-use Rattle.exchange.specs.Request.{fieldsOf}
+use Rattle.request.specs.Request.{fieldsOf}
 use Rattle.exchange.specs.Exchange.{isFree, exchangeOf, asked}
 use Rattle.exchange.specs.Steps.{Step, openResult, respond, abandon, refusal, respondRefusal}
 use Rattle.gateway.specs.Registry.{Registry}

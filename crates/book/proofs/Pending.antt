@@ -11,7 +11,7 @@ use lib.ListN.{length, length-append}
 use Rattle.wire.specs.Search.{firstPlace}
 use Rattle.wire.proofs.Booleans.{either, and-right, and-false}
 use Rattle.exchange.specs.declared.Exchange.{Exchange}
-use Rattle.exchange.specs.declared.request.Request.{Request}
+use Rattle.request.specs.declared.Request.{Request}
 use Rattle.exchange.specs.Exchange.{isFree, hasTicket, exchangeOf, asked}
 use Rattle.exchange.specs.Steps.{Step, openResult, respond, abandon, next}
 use Rattle.book.specs.Book.{remaining, replaced}

@@ -11,7 +11,7 @@ use Rattle.wire.specs.Refusals.{unlessRefused}
 use Rattle.wire.specs.Search.{firstPlace}
 use Rattle.book.proofs.Placing.{place-inside, place-free}
 use Rattle.exchange.specs.declared.Exchange.{Exchange}
-use Rattle.exchange.specs.Request.{keyIdOf, fieldsOf}
+use Rattle.request.specs.Request.{keyIdOf, fieldsOf}
 use Rattle.exchange.specs.Exchange.{free, hasTicket, exchangeOf, asked}
 use Rattle.exchange.specs.Steps.{Step, next}
 use Rattle.keys.specs.Keys.{placeOfKey}

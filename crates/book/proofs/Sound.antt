@@ -10,7 +10,7 @@ use lib.Dec.{eqb, leb}
 use lib.ListN.{length, length-set, length-map}
 use Rattle.wire.proofs.Booleans.{either, and-left, and-right}
 use Rattle.keylist.specs.Layout.{Configuration, mostConfigurations, good, parse}
-use Rattle.exchange.specs.Request.{keyIdOf, fieldsOf}
+use Rattle.request.specs.Request.{keyIdOf, fieldsOf}
 use Rattle.exchange.specs.Exchange.{exchangeOf, asked}
 use Rattle.exchange.specs.Steps.{Step, next}
 use Rattle.keys.specs.Keys.{Key, placeOfKey, keyAt, freshKey, withRetirement}

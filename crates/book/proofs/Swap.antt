@@ -11,7 +11,7 @@ use lib.ListN.{length}
 use Rattle.wire.specs.Search.{among}
 use Rattle.wire.proofs.Booleans.{true-or-false}
 use Rattle.exchange.specs.declared.Exchange.{Exchange}
-use Rattle.exchange.specs.Request.{keyIdOf, fieldsOf, requestRefusal}
+use Rattle.request.specs.Request.{keyIdOf, fieldsOf, requestRefusal}
 use Rattle.exchange.specs.Exchange.{hasTicket, exchangeOf, asked}
 use Rattle.exchange.specs.Steps.{Step, next}
 use Rattle.keys.specs.Keys.{placeOfKey, keyRefusal}

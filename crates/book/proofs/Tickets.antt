@@ -10,7 +10,7 @@ use lib.Dec.{eqb}
 use Rattle.wire.specs.Search.{firstPlace}
 use Rattle.wire.proofs.Booleans.{either}
 use Rattle.exchange.specs.declared.Exchange.{Exchange}
-use Rattle.exchange.specs.Request.{fieldsOf}
+use Rattle.request.specs.Request.{fieldsOf}
 use Rattle.exchange.specs.Exchange.{free, isFree, hasTicket, exchangeOf, asked}
 use Rattle.exchange.specs.Steps.{Step, refusal, next}
 use Rattle.gateway.specs.Calls.{Call, admit, retire, onTicket, reporting}

@@ -7,7 +7,7 @@ use lib.ListN.{length}
 use Rattle.wire.specs.Tests.{pick}
 use Rattle.wire.specs.Refusals.{unlessRefused, written}
 use Rattle.exchange.specs.declared.Exchange.{Exchange}
-use Rattle.exchange.specs.Request.{keyIdOf, fieldsOf, infoOf}
+use Rattle.request.specs.Request.{keyIdOf, fieldsOf, infoOf}
 use Rattle.exchange.specs.Exchange.{isFree, hasTicket, exchangeOf, asked}
 use Rattle.exchange.specs.Steps.{Step, refusal, next, answer, buffer}
 use Rattle.keys.specs.Keys.{Key, placeOfKey, retireRefusal, withUse, withRetirement, changed}

@@ -7,7 +7,7 @@ use lib.Dec.{eqb}
 use lib.ListN.{length}
 use Rattle.wire.specs.Tests.{_and_}
 use Rattle.keylist.specs.Layout.{mostConfigurations}
-use Rattle.exchange.specs.Request.{keyIdOf}
+use Rattle.request.specs.Request.{keyIdOf}
 use Rattle.keys.specs.Keys.{Key, keyAt}
 use Rattle.keys.specs.Stored.{oneMore}
 use Rattle.gateway.specs.Registry.{Registry, mostUses}

@@ -10,7 +10,7 @@ use Rattle.wire.specs.Refusals.{unlessRefused}
 use Rattle.wire.specs.Texts.{infoLength}
 use Rattle.algorithms.specs.Sizes.{knownKem, knownKdf, knownAead, shortestRequest}
 use Rattle.exchange.specs.declared.Exchange.{Exchange}
-use Rattle.exchange.specs.Request.{longestRequest, keyIdOf, kemOf, kdfOf, aeadOf, fieldsOf}
+use Rattle.request.specs.Request.{longestRequest, keyIdOf, kemOf, kdfOf, aeadOf, fieldsOf}
 use Rattle.exchange.specs.Exchange.{free, isFree, asked, exchangeOf}
 use Rattle.exchange.specs.Steps.{openResult, respond, abandon, refusal}
 use Rattle.keys.specs.Keys.{keyAt}

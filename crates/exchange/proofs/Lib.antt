@@ -2,4 +2,3 @@
 pub mod Answers
 pub mod Lengths
 pub mod Moves
-pub mod Requests

@@ -8,7 +8,7 @@ use Rattle.wire.specs.Tests.{_and_}
 use Rattle.wire.specs.Search.{firstPlace}
 use Rattle.algorithms.specs.Sizes.{knownKem, knownAead, encLength, responseNonceLength, tagLength}
 use Rattle.exchange.specs.declared.Exchange.{Exchange}
-use Rattle.exchange.specs.declared.request.Request.{Request}
+use Rattle.request.specs.declared.Request.{Request}
 
 -- the states, as numbers
 abbrev pub closedPhase : ℕ

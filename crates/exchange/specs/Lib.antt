@@ -1,4 +1,3 @@
--- 01, "An exchange, step by step": a request's fields and sizes, the exchange, and the calls on its ticket.
-pub mod Request
+-- 01, "An exchange, step by step": the exchange, and the calls on its ticket.
 pub mod Exchange
 pub mod Steps

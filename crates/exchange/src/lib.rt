@@ -4,15 +4,13 @@ ghost use mathlib.Core.Path.{_≡_};
 ghost use lib.ListN.{length};
 ghost use Rattle.exchange.specs.Exchange.{free, isFree, asked, opened, hasOpenedLength};
 ghost use Rattle.exchange.specs.Steps.{openResult, respond, abandon, refusal, after, openAnswer, respondAnswer, abandonAnswer, buffer, respondRefusal, lengthsHold};
-use crate::request::Request;
 use algorithms::Aead;
 use algorithms::Kem;
 use algorithms::Size;
 use keylist::KeyId;
+use request::Request;
 use wire::bytes::overwrite;
 use wire::refusal::Refusal;
-
-pub mod request;
 
 // 01's ticket: a number of its own kind. Tickets are 1, 2, 3 and on; 0 is never given.
 #[repr(C)]

@@ -16,11 +16,11 @@ use Rattle.wire.proofs.Writes.{front-first}
 use Rattle.wire.proofs.Numbers.{unless-refused, not-refused}
 use Rattle.exchange.specs.declared.Exchange.{Exchange}
 use Rattle.exchange.specs.declared.Ticket.{Ticket}
-use Rattle.exchange.specs.declared.request.Request.{Request}
-use Rattle.exchange.specs.declared.request.Parsed.{Parsed}
-use Rattle.exchange.specs.Request.{requestRefusal, fieldsOf, noFields, parsed, infoOf}
+use Rattle.request.specs.declared.Request.{Request}
+use Rattle.request.specs.declared.Parsed.{Parsed}
+use Rattle.request.specs.Request.{requestRefusal, fieldsOf, noFields, parsed, infoOf}
 use Rattle.exchange.specs.Exchange.{free, isFree, asked}
-use Rattle.exchange.proofs.Requests.{accepted-request, info-of}
+use Rattle.request.proofs.Requests.{accepted-request, info-of}
 use Rattle.keys.specs.declared.Keys.{Keys}
 use Rattle.keys.specs.Keys.{Key, placeOfKey, keyRefusal, retireRefusal}
 use Rattle.keys.specs.Stored.{keysOf, usedState, retiredState, changedState}

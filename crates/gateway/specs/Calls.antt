@@ -7,7 +7,7 @@ use Rattle.wire.specs.Refusals.{unlessRefused, written}
 use Rattle.exchange.specs.declared.OpenAnswer.{OpenAnswer}
 use Rattle.exchange.specs.declared.RespondAnswer.{RespondAnswer}
 use Rattle.exchange.specs.declared.AbandonAnswer.{AbandonAnswer}
-use Rattle.exchange.specs.Request.{infoOf}
+use Rattle.request.specs.Request.{infoOf}
 use Rattle.exchange.specs.Exchange.{exchangeOf}
 use Rattle.exchange.specs.Steps.{Step, StepAnswer, ofOpen, ofRespond, ofAbandon, answer, buffer}
 use Rattle.keys.specs.Keys.{placeOfKey, retireRefusal}

@@ -7,7 +7,7 @@ use Rattle.wire.specs.Tests.{pick}
 use Rattle.wire.specs.Search.{firstPlace, anyPasses}
 use Rattle.keylist.specs.Layout.{Configuration, Outcome, good, bad}
 use Rattle.exchange.specs.declared.Exchange.{Exchange}
-use Rattle.exchange.specs.Request.{keyIdOf, fieldsOf}
+use Rattle.request.specs.Request.{keyIdOf, fieldsOf}
 use Rattle.exchange.specs.Exchange.{free, isFree, hasTicket, exchangeOf, asked}
 use Rattle.exchange.specs.Steps.{Step, after}
 use Rattle.keys.specs.declared.Keys.{Keys}

@@ -8,8 +8,8 @@ use Rattle.wire.specs.Tests.{pick, _and_}
 use Rattle.wire.specs.Refusals.{_when_otherwise_, refused}
 use Rattle.wire.specs.Texts.{headLength, infoLength}
 use Rattle.keylist.specs.Layout.{Configuration, Outcome, good, bad, parse}
-use Rattle.exchange.specs.declared.request.Request.{Request}
-use Rattle.exchange.specs.Request.{keyIdOf, fieldsOf, requestRefusal}
+use Rattle.request.specs.declared.Request.{Request}
+use Rattle.request.specs.Request.{keyIdOf, fieldsOf, requestRefusal}
 use Rattle.keys.specs.Keys.{Key, freshKey, placeOfKey, keyRefusal}
 use Rattle.keys.specs.Stored.{storedReports}
 use Rattle.gateway.specs.declared.SetupAnswer.{SetupAnswer}

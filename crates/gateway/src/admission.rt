@@ -6,8 +6,8 @@ ghost use Rattle.gateway.specs.Registry.{_orElse_, roomRefusal, statusOf
 ghost use Rattle.gateway.specs.Gateway.{tableSize};
 use crate::table::TABLE_SIZE;
 use exchange::Ticket;
-use exchange::request::Request;
 use keylist::KeyId;
+use request::Request;
 use wire::refusal::Refusal;
 use wire::texts;
 

@@ -22,7 +22,6 @@ use exchange::Exchange;
 use exchange::OpenAnswer;
 use exchange::RespondAnswer;
 use exchange::Ticket;
-use exchange::request;
 use keylist::Checked;
 use keylist::KeyId;
 use keylist::check::MOST_CONFIGURATIONS;

@@ -13,7 +13,7 @@ use lib.ListN.{length, getD, take, set, length-map}
 use lib.Seq.{set-out, take-suc}
 use Rattle.wire.specs.Refusals.{_when_otherwise_}
 use Rattle.wire.proofs.Booleans.{either}
-use Rattle.exchange.specs.declared.request.Request.{Request}
+use Rattle.request.specs.declared.Request.{Request}
 use Rattle.keys.specs.declared.KeyState.{KeyState}
 use Rattle.keys.specs.declared.Keys.{Keys}
 use Rattle.keys.specs.declared.KeyReport.{KeyReport}

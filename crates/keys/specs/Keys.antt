@@ -10,7 +10,7 @@ use Rattle.wire.specs.Refusals.{_when_otherwise_}
 use Rattle.algorithms.specs.Sizes.{knownPair}
 use Rattle.keylist.specs.declared.Pair.{Pair}
 use Rattle.keylist.specs.Layout.{Configuration}
-use Rattle.exchange.specs.declared.request.Request.{Request}
+use Rattle.request.specs.declared.Request.{Request}
 use Rattle.keys.specs.declared.KeyReport.{KeyReport}
 
 pub record Key : Type 0 where

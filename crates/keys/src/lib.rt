@@ -12,7 +12,6 @@ ghost use Rattle.keys.specs.Stored.{mostPairs, padded, noPair, blankKey,
 use algorithms::Aead;
 use algorithms::Kdf;
 use algorithms::is_known_pair;
-use exchange::request::Request;
 use keylist::Checked;
 use keylist::KeyId;
 use keylist::Pair;
@@ -20,6 +19,7 @@ use keylist::check::MOST_CONFIGURATIONS;
 use keylist::check::MOST_PAIR_BYTES;
 use keylist::check::check;
 use keylist::check::place_at;
+use request::Request;
 use wire::bytes::word_at;
 use wire::refusal::Refusal;
 

@@ -12,7 +12,7 @@ use Rattle.wire.specs.Bytes.{overwritten, roomFor}
 use Rattle.wire.specs.Texts.{headLength}
 use Rattle.wire.proofs.Booleans.{either}
 use Rattle.algorithms.specs.Sizes.{knownKem, shortestRequest}
-use Rattle.exchange.specs.Request.{requestRefusal, kemOf, longestRequest}
+use Rattle.request.specs.Request.{requestRefusal, kemOf, longestRequest}
 
 -- not refused: the KEM is known, and the length is neither too short for it nor too long
 pub accepted-request : (request : List ℕ) → requestRefusal request ≡ 0

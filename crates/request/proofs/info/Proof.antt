@@ -1,10 +1,10 @@
--- `exchange::request::info` meets its contract.
+-- `request::info` meets its contract.
 -- Assumes nothing.
 use mathlib.Core.Path.{ap, _∙_}
 use Rattle.wire.specs.Texts.{infoBytes}
 use borrow.Author.Needs.{needs}
-use Rattle.exchange.proofs.request.info.Statement.{statement}
-use Rattle.exchange.proofs.request.info.Tie as tie
+use Rattle.request.proofs.info.Statement.{statement}
+use Rattle.request.proofs.info.Tie as tie
 
 slice-aggregate-overwrite : tie.Need-slice-aggregate-overwrite
 slice-aggregate-overwrite c = search needs

@@ -5,7 +5,7 @@ ghost use lib.ListN.{replicate};
 ghost use Rattle.wire.specs.Bytes.{overwritten};
 ghost use Rattle.wire.specs.Texts.{headLength, infoBytes};
 ghost use Rattle.algorithms.specs.Sizes.{encLength};
-ghost use Rattle.exchange.specs.Request.{parsed, requestRefusal, noFields};
+ghost use Rattle.request.specs.Request.{parsed, requestRefusal, noFields};
 use algorithms::Kem;
 use algorithms::Size;
 use keylist::KeyId;

@@ -1,4 +1,4 @@
--- `exchange::request::read` meets its contract: the fields, which an accepted request is long enough for, and none on refusal.
+-- `request::read` meets its contract: the fields, which an accepted request is long enough for, and none on refusal.
 -- Assumes nothing.
 use mathlib.Core.Path.{ap, _∙_}
 use Prim.Native.Nat.{_+_, _≤_}
@@ -6,12 +6,12 @@ use native.Mathlib.Omega.{arith}
 use lib.ListN.{length}
 use Rattle.wire.specs.Texts.{headLength}
 use Rattle.wire.proofs.Numbers.{unless-refused}
-use Rattle.exchange.specs.declared.request.Request.{Request}
-use Rattle.exchange.specs.Request.{longestRequest}
-use Rattle.exchange.proofs.Requests.{accepted-request}
+use Rattle.request.specs.declared.Request.{Request}
+use Rattle.request.specs.Request.{longestRequest}
+use Rattle.request.proofs.Requests.{accepted-request}
 use borrow.Author.Needs.{needs}
-use Rattle.exchange.proofs.request.read.Statement.{statement}
-use Rattle.exchange.proofs.request.read.Tie as tie
+use Rattle.request.proofs.read.Statement.{statement}
+use Rattle.request.proofs.read.Tie as tie
 
 -- nothing is refused: enc lies within the request, which is not too long
 within : (c : tie.After-enc-length)

@@ -8,8 +8,8 @@ use Rattle.wire.specs.Bytes.{byteAt, wordAt}
 use Rattle.wire.specs.Refusals.{_when_otherwise_, unlessRefused}
 use Rattle.wire.specs.Texts.{headLength, infoBytes}
 use Rattle.algorithms.specs.Sizes.{knownKem, encLength, shortestRequest}
-use Rattle.exchange.specs.declared.request.Request.{Request}
-use Rattle.exchange.specs.declared.request.Parsed.{Parsed}
+use Rattle.request.specs.declared.Request.{Request}
+use Rattle.request.specs.declared.Parsed.{Parsed}
 
 -- the most bytes of a request
 abbrev pub longestRequest : ℕ

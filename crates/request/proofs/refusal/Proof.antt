@@ -1,14 +1,14 @@
--- `exchange::request::refusal` meets its contract: each refusal by its test, in 01's order.
+-- `request::refusal` meets its contract: each refusal by its test, in 01's order.
 -- Assumes nothing.
 use mathlib.Core.Bool.{true}
 use mathlib.Core.Path.{_≡_, sym, _∙_}
 use borrow.Author.Tests.{lt-ltb, le-ltb}
 use Rattle.algorithms.specs.Sizes.{knownKem, shortestRequest}
 use Rattle.algorithms.proofs.Answers.{known, unknown}
-use Rattle.exchange.specs.Request.{requestRefusal, kemOf}
+use Rattle.request.specs.Request.{requestRefusal, kemOf}
 use borrow.Author.Needs.{needs}
-use Rattle.exchange.proofs.request.refusal.Statement.{statement}
-use Rattle.exchange.proofs.request.refusal.Tie as tie
+use Rattle.request.proofs.refusal.Statement.{statement}
+use Rattle.request.proofs.refusal.Tie as tie
 
 -- the lookup's answer: the request's KEM is known, and how long its shortest request is
 kem-known : (c : tie.After-shortest)

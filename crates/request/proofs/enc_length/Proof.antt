@@ -1,4 +1,4 @@
--- `exchange::request::enc_length` meets its contract: an unknown KEM has no enc.
+-- `request::enc_length` meets its contract: an unknown KEM has no enc.
 -- Assumes nothing.
 use mathlib.Core.Path.{sym, _∙_}
 use native.Mathlib.Omega.{arith}
@@ -6,8 +6,8 @@ use Rattle.algorithms.specs.Sizes.{knownKem, encLength}
 use Rattle.algorithms.proofs.Answers.{known, unknown}
 use Rattle.algorithms.proofs.Stated.{size-bounds}
 use borrow.Author.Needs.{needs}
-use Rattle.exchange.proofs.request.enc_length.Statement.{statement}
-use Rattle.exchange.proofs.request.enc_length.Tie as tie
+use Rattle.request.proofs.enc_length.Statement.{statement}
+use Rattle.request.proofs.enc_length.Tie as tie
 
 enc-length-requires : tie.Need-enc-length-requires
 enc-length-requires c κs = search needs

@@ -1,0 +1,2 @@
+-- Laws that belong to no one function; other crates cite them.
+pub mod Requests

@@ -1,0 +1,2 @@
+-- 01, "Layouts", the request.
+pub mod Request
