@@ -41,7 +41,7 @@ unfoldable pub countingFrom : ℕ → ℕ → List ℕ
 countingFrom first zero = []
 countingFrom first (suc n) = first ∷ countingFrom (first + 1) n
 
--- the head at the end of a history
+-- of the registry at the end of a history, and the history
 pub record Counts (registry : Registry) (events : List Event) : Type 0 where
   pub admissions : (place : ℕ) → place < length (registry .keys)
       → keyAt (registry .keys) place .count ≡ admissionsOfKey (keyAt (registry .keys) place .id) events

@@ -1,17 +1,13 @@
--- What a call on a ticket does to the exchange: refused, it leaves it; accepted, the exchange was pending, and its ticket stays
--- with it or its place is free.
+-- What a call on a ticket does to the exchange: where it is accepted the exchange was pending, and what is left of it has its
+-- ticket.
 -- Assumes nothing.
-use mathlib.Core.Path.{_≡_, refl, sym}
+use mathlib.Core.Path.{_≡_, refl}
 use mathlib.Core.Bool.{true, false}
-use Rattle.wire.proofs.Numbers.{unless-refused, not-refused}
+use Rattle.wire.proofs.Numbers.{not-refused}
 use Rattle.wire.proofs.Booleans.{true-or-false}
 use Rattle.exchange.specs.declared.Exchange.{Exchange}
 use Rattle.exchange.specs.Exchange.{isFree}
-use Rattle.exchange.specs.Steps.{Step, openResult, respond, abandon, refusal, respondRefusal, next, after}
-
--- a refused call leaves the exchange
-pub refused-stays : (step : Step) (e : Exchange) → (refusal step e ≡ 0 → ⊥) → after step e ≡ e
-refused-stays step e h = sym (unless-refused (refusal step e) (next step e) e h)
+use Rattle.exchange.specs.Steps.{Step, openResult, respond, abandon, refusal, respondRefusal, next}
 
 -- 11 is tested first
 pub accepted-pending : (step : Step) (e : Exchange) → refusal step e ≡ 0 → isFree e ≡ false

@@ -6,8 +6,7 @@ use Prim.Native.Nat.{ℕ, _+_, _-_, _^_, _≤_, _<_}
 use native.Mathlib.Omega.{arith}
 use lib.ListN.{length, getD, take, set, length-map}
 use lib.Seq.{take-set-lt}
-use Rattle.wire.specs.declared.refusal.Refusal.{Refusal}
-use Rattle.keylist.specs.Layout.{Configuration, good, bad, parse, mostConfigurations}
+use Rattle.keylist.specs.Layout.{Configuration, good, parse, mostConfigurations}
 use Rattle.keys.specs.declared.KeyState.{KeyState}
 use Rattle.keys.specs.declared.Keys.{Keys}
 use Rattle.keys.specs.Keys.{Key, freshKey, keyAt, noKey, withUse, withRetirement, changed}
@@ -73,8 +72,3 @@ parsed-view bytes cs e = (rw e (stored-view cs), parsed bytes cs e .few)
 
 pub parsed-distinct : (bytes : List ℕ) (cs : List Configuration) → parse bytes ≡ good cs → Distinct (ids cs)
 parsed-distinct bytes cs e = parsed bytes cs e .distinct
-
--- a list that is refused has none
-pub refused-view : (r : Refusal) → keysOf (keysFrom (bad r)) ≡ []
-unfolding keysFrom
-refused-view r = stored-view []

@@ -42,14 +42,6 @@ module _ {A : Type 0} (default : A) (test : A → Bool) where
   first-passes (x ∷ xs) h =
       either (test x) (λ e. rw e e) (λ e. rw e (first-passes xs (le-of-suc-le-suc (rw e at h))))
 
-  -- an element that passes is not before the first match
-  pub first-before : (xs : List A) (k : ℕ) → k < length xs → test (getD xs k default) ≡ true → firstPlace test xs ≤ k
-  unfolding firstPlace
-  first-before [] k h here = absurd (not-suc-le-zero h)
-  first-before (x ∷ xs) zero h here = rw here (omega arith)
-  first-before (x ∷ xs) (suc k) h here =
-      either (test x) (λ e. rw e (omega arith)) (λ e. rw e (suc-le-suc (first-before xs k (le-of-suc-le-suc h) here)))
-
   -- where some element passes, there is a first match
   pub any-inside : (xs : List A) → anyPasses test xs ≡ true → firstPlace test xs < length xs
   unfolding anyPasses firstPlace
