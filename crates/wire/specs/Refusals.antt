@@ -2,6 +2,7 @@
 use Prim.Native.Nat.{ℕ, zero, suc}
 use mathlib.Core.Bool.{Bool, true, false}
 use mathlib.Core.List.{List}
+use lib.Dec.{eqb}
 use Rattle.wire.specs.Bytes.{withFront}
 use Rattle.wire.specs.declared.refusal.Refusal.{Refusal}
 
@@ -18,6 +19,10 @@ refused n = record { number = n; place = 0 }
 -- 01, number 15: key list bad, with its place
 abbrev pub badList : ℕ → Refusal
 badList at = record { number = 15; place = at }
+
+-- 01, "It returns the number, and for 15 also a place"
+abbrev pub hasPlace : Refusal → Bool
+hasPlace r = eqb (r .number) 15
 
 -- by a refusal number: with 0 the first, else the second
 abbrev pub unlessRefused : {A : Type 0} → ℕ → A → A → A

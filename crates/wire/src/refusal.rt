@@ -1,6 +1,6 @@
 // 01's refusals.
 ghost use mathlib.Core.Path.{_≡_};
-ghost use Rattle.wire.specs.Refusals.{refused, badList};
+ghost use Rattle.wire.specs.Refusals.{refused, badList, hasPlace};
 
 // A refusal: its number and, for 15, its place; the place is 0 for every other number.
 pub struct Refusal {
@@ -57,5 +57,11 @@ impl Refusal {
             number: Refusal::BAD_KEY_LIST,
             place,
         }
+    }
+    // The number comes with a place.
+    pub fn has_place(self) -> bool
+        ensures { λ r. ⌜ r ≡ hasPlace self ⌝ }
+    {
+        self.number == Refusal::BAD_KEY_LIST
     }
 }

@@ -1,0 +1,256 @@
+// A line as a call: its first word names the call, the others are its arguments.
+use crate::words::Part;
+use crate::words::behind;
+use crate::words::is_end;
+use crate::words::is_word;
+use crate::words::take_bytes;
+use crate::words::take_code;
+use crate::words::take_number;
+use crate::words::take_numbers;
+use algorithms::Aead;
+use exchange::Ticket;
+use keylist::KeyId;
+use replay::client_side;
+use replay::client_side::HeadCall;
+use replay::gateway_side;
+
+// The most bytes of a request, a response, a list, an enc or a nonce.
+const MOST_BYTES: usize = 70000;
+
+// The most room that a call but `write` lends.
+const MOST_ROOM: u64 = 256;
+
+// The largest key id.
+pub(crate) const MOST_ID: u64 = 255;
+
+// What a line says. A call's bytes are parts of the line, and the numbers of `choose` parts of a buffer beside it.
+pub(crate) enum Said {
+    ToGateway(gateway_side::Call, Part, Part),
+    ToClient(client_side::Call, Part, Part, Part),
+    NoCall,
+}
+
+// Reads a line that is not `write`.
+pub(crate) fn read(line: &mut [u8], numbers: &mut [u16]) -> Said {
+    let at = behind(line, 0);
+    if is_word(line, 0, b"admit") {
+        return admit(line, at);
+    }
+    if is_word(line, 0, b"open") {
+        return open_result(line, at);
+    }
+    if is_word(line, 0, b"respond") {
+        return respond(line, at);
+    }
+    if is_word(line, 0, b"abandon") {
+        return abandon(line, at);
+    }
+    if is_word(line, 0, b"setup") {
+        return setup(line, at);
+    }
+    if is_word(line, 0, b"retire") {
+        return retire(line, at);
+    }
+    if is_word(line, 0, b"report") {
+        return report(line, at);
+    }
+    read_client(line, at, numbers)
+}
+
+fn read_client(line: &mut [u8], at: usize, numbers: &mut [u16]) -> Said {
+    if is_word(line, 0, b"check") {
+        return check(line, at);
+    }
+    if is_word(line, 0, b"key") {
+        return key(line, at);
+    }
+    if is_word(line, 0, b"choose") {
+        return choose(line, at, numbers);
+    }
+    if is_word(line, 0, b"head") {
+        return head(line, at);
+    }
+    if is_word(line, 0, b"split") {
+        return split(line, at);
+    }
+    Said::NoCall
+}
+
+fn setup(line: &mut [u8], at: usize) -> Said {
+    let cap = take_number(line, at, u64::MAX);
+    let list = take_bytes(line, cap.next, cap.next, MOST_BYTES);
+    if !is_end(line, list.next) {
+        return Said::NoCall;
+    }
+    Said::ToGateway(
+        gateway_side::Call::Setup(cap.value),
+        list.part(),
+        Part::none(),
+    )
+}
+
+fn admit(line: &mut [u8], at: usize) -> Said {
+    let request = take_bytes(line, at, at, MOST_BYTES);
+    let room = take_number(line, request.next, MOST_ROOM);
+    if !is_end(line, room.next) {
+        return Said::NoCall;
+    }
+    Said::ToGateway(
+        gateway_side::Call::Admit(room.value as usize),
+        request.part(),
+        Part::none(),
+    )
+}
+
+fn open_result(line: &[u8], at: usize) -> Said {
+    let ticket = take_number(line, at, u64::MAX);
+    let n = take_number(line, behind(line, ticket.next), u64::MAX);
+    if !is_end(line, n.next) {
+        return Said::NoCall;
+    }
+    if is_word(line, ticket.next, b"ok") {
+        return opening(ticket.value, true, n.value);
+    }
+    if is_word(line, ticket.next, b"failed") {
+        return opening(ticket.value, false, n.value);
+    }
+    Said::NoCall
+}
+
+fn opening(ticket: u64, success: bool, n: u64) -> Said {
+    Said::ToGateway(
+        gateway_side::Call::Open(Ticket(ticket), success, n),
+        Part::none(),
+        Part::none(),
+    )
+}
+
+fn respond(line: &mut [u8], at: usize) -> Said {
+    let ticket = take_number(line, at, u64::MAX);
+    let enc = take_bytes(line, ticket.next, ticket.next, MOST_BYTES);
+    let nonce = take_bytes(line, enc.next, enc.next, MOST_BYTES);
+    let plain = take_number(line, nonce.next, u64::MAX);
+    let room = take_number(line, plain.next, MOST_ROOM);
+    if !is_end(line, room.next) {
+        return Said::NoCall;
+    }
+    Said::ToGateway(
+        gateway_side::Call::Respond(Ticket(ticket.value), plain.value, room.value as usize),
+        enc.part(),
+        nonce.part(),
+    )
+}
+
+fn abandon(line: &[u8], at: usize) -> Said {
+    let ticket = take_number(line, at, u64::MAX);
+    if !is_end(line, ticket.next) {
+        return Said::NoCall;
+    }
+    Said::ToGateway(
+        gateway_side::Call::Abandon(Ticket(ticket.value)),
+        Part::none(),
+        Part::none(),
+    )
+}
+
+fn retire(line: &[u8], at: usize) -> Said {
+    let id = take_number(line, at, MOST_ID);
+    if !is_end(line, id.next) {
+        return Said::NoCall;
+    }
+    Said::ToGateway(
+        gateway_side::Call::Retire(KeyId((id.value % 256) as u8)),
+        Part::none(),
+        Part::none(),
+    )
+}
+
+fn report(line: &[u8], at: usize) -> Said {
+    if !is_end(line, at) {
+        return Said::NoCall;
+    }
+    Said::ToGateway(gateway_side::Call::Report, Part::none(), Part::none())
+}
+
+fn check(line: &mut [u8], at: usize) -> Said {
+    let list = take_bytes(line, at, at, MOST_BYTES);
+    if !is_end(line, list.next) {
+        return Said::NoCall;
+    }
+    Said::ToClient(
+        client_side::Call::Check,
+        list.part(),
+        Part::none(),
+        Part::none(),
+    )
+}
+
+fn key(line: &mut [u8], at: usize) -> Said {
+    let list = take_bytes(line, at, at, MOST_BYTES);
+    let id = take_number(line, list.next, MOST_ID);
+    if !is_end(line, id.next) {
+        return Said::NoCall;
+    }
+    Said::ToClient(
+        client_side::Call::Key(KeyId((id.value % 256) as u8)),
+        list.part(),
+        Part::none(),
+        Part::none(),
+    )
+}
+
+fn choose(line: &mut [u8], at: usize, numbers: &mut [u16]) -> Said {
+    let list = take_bytes(line, at, at, MOST_BYTES);
+    let kems = take_numbers(line, list.next, numbers, 0, numbers.len());
+    let pairs = take_numbers(line, kems.next, numbers, kems.end, numbers.len());
+    if !is_end(line, pairs.next) {
+        return Said::NoCall;
+    }
+    Said::ToClient(
+        client_side::Call::Choose,
+        list.part(),
+        kems.part(),
+        pairs.part(),
+    )
+}
+
+fn head(line: &mut [u8], at: usize) -> Said {
+    let id = take_number(line, at, MOST_ID);
+    let kem = take_code(line, id.next);
+    let kdf = take_code(line, kem.next);
+    let aead = take_code(line, kdf.next);
+    let enc = take_bytes(line, aead.next, aead.next, MOST_BYTES);
+    let head_room = take_number(line, enc.next, MOST_ROOM);
+    let info_room = take_number(line, head_room.next, MOST_ROOM);
+    if !is_end(line, info_room.next) {
+        return Said::NoCall;
+    }
+    let asked = HeadCall {
+        key_id: KeyId((id.value % 256) as u8),
+        kem: kem.value,
+        kdf: kdf.value,
+        aead: aead.value,
+        head_room: head_room.value as usize,
+        info_room: info_room.value as usize,
+    };
+    Said::ToClient(
+        client_side::Call::Head(asked),
+        enc.part(),
+        Part::none(),
+        Part::none(),
+    )
+}
+
+fn split(line: &mut [u8], at: usize) -> Said {
+    let aead = take_code(line, at);
+    let response = take_bytes(line, aead.next, aead.next, MOST_BYTES);
+    if !is_end(line, response.next) {
+        return Said::NoCall;
+    }
+    Said::ToClient(
+        client_side::Call::Split(Aead(aead.value)),
+        response.part(),
+        Part::none(),
+        Part::none(),
+    )
+}
