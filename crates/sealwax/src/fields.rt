@@ -1,6 +1,5 @@
 // The configurations of `write`, gathered as the list writer takes them.
 use crate::lines::MOST_ID;
-use crate::words::NO_WORD;
 use crate::words::Part;
 use crate::words::behind;
 use crate::words::bytes_of;
@@ -94,8 +93,27 @@ fn take_all(line: &mut [u8], at: usize, numbers: &mut [u16]) -> Fields {
     fields
 }
 
-// Answers a line of `write`.
+// Answers a line of `write`, which is a part of the buffer.
 pub(crate) fn answer(
+    bytes: &mut [u8],
+    line: Part,
+    number: u64,
+    numbers: &mut [u16],
+    out: &mut [u8],
+    at: usize,
+) -> usize {
+    let start = line.start;
+    let end = line.end;
+    if end < start {
+        return at;
+    }
+    if bytes.len() < end {
+        return at;
+    }
+    answer_line(&mut bytes[start..end], number, numbers, out, at)
+}
+
+fn answer_line(
     line: &mut [u8],
     number: u64,
     numbers: &mut [u16],

@@ -27,10 +27,14 @@ pub(crate) const MOST_ID: u64 = 255;
 pub(crate) enum Said {
     ToGateway(gateway_side::Call, Part, Part),
     ToClient(client_side::Call, Part, Part, Part),
+    // `write`, whose configurations are read as they are gathered.
+    ToWriter,
     NoCall,
+    // An empty line, or a comment.
+    Nothing,
 }
 
-// Reads a line that is not `write`.
+// Reads a line that is neither empty nor a comment.
 pub(crate) fn read(line: &mut [u8], numbers: &mut [u16]) -> Said {
     let at = behind(line, 0);
     if is_word(line, 0, b"admit") {
@@ -72,6 +76,9 @@ fn read_client(line: &mut [u8], at: usize, numbers: &mut [u16]) -> Said {
     }
     if is_word(line, 0, b"split") {
         return split(line, at);
+    }
+    if is_word(line, 0, b"write") {
+        return Said::ToWriter;
     }
     Said::NoCall
 }
@@ -215,30 +222,56 @@ fn choose(line: &mut [u8], at: usize, numbers: &mut [u16]) -> Said {
 }
 
 fn head(line: &mut [u8], at: usize) -> Said {
-    let id = take_number(line, at, MOST_ID);
-    let kem = take_code(line, id.next);
-    let kdf = take_code(line, kem.next);
-    let aead = take_code(line, kdf.next);
-    let enc = take_bytes(line, aead.next, aead.next, MOST_BYTES);
+    let front = take_front(line, at);
+    let enc = take_bytes(line, front.next, front.next, MOST_BYTES);
     let head_room = take_number(line, enc.next, MOST_ROOM);
     let info_room = take_number(line, head_room.next, MOST_ROOM);
     if !is_end(line, info_room.next) {
         return Said::NoCall;
     }
-    let asked = HeadCall {
-        key_id: KeyId((id.value % 256) as u8),
-        kem: kem.value,
-        kdf: kdf.value,
-        aead: aead.value,
-        head_room: head_room.value as usize,
-        info_room: info_room.value as usize,
-    };
     Said::ToClient(
-        client_side::Call::Head(asked),
+        front.with_rooms(head_room.value as usize, info_room.value as usize),
         enc.part(),
         Part::none(),
         Part::none(),
     )
+}
+
+// The words of `head` before enc, and where the next word starts.
+struct Front {
+    key_id: KeyId,
+    kem: u16,
+    kdf: u16,
+    aead: u16,
+    next: usize,
+}
+
+fn take_front(line: &[u8], at: usize) -> Front {
+    let id = take_number(line, at, MOST_ID);
+    let kem = take_code(line, id.next);
+    let kdf = take_code(line, kem.next);
+    let aead = take_code(line, kdf.next);
+    Front {
+        key_id: KeyId((id.value % 256) as u8),
+        kem: kem.value,
+        kdf: kdf.value,
+        aead: aead.value,
+        next: aead.next,
+    }
+}
+
+impl Front {
+    fn with_rooms(self, head_room: usize, info_room: usize) -> client_side::Call {
+        let key_id = self.key_id;
+        client_side::Call::Head(HeadCall {
+            key_id,
+            kem: self.kem,
+            kdf: self.kdf,
+            aead: self.aead,
+            head_room,
+            info_room,
+        })
+    }
 }
 
 fn split(line: &mut [u8], at: usize) -> Said {

@@ -11,8 +11,8 @@ use crate::input::is_comment;
 use crate::input::line_end;
 use crate::lines::Said;
 use crate::output::Output;
+use crate::words::Part;
 use crate::words::bytes_of;
-use crate::words::is_word;
 use crate::words::numbers_of;
 use gateway::Gateway;
 use replay::client_side;
@@ -39,39 +39,43 @@ fn main() {
     replay_all(&mut bytes, &mut numbers, &mut out);
 }
 
-// The gateway, the input and the output between two lines.
-struct Progress {
-    gateway: Gateway,
+// The input and the output between two lines.
+struct Streams {
     input: Input,
     output: Output,
 }
 
-impl Progress {
-    // The gateway at the start is the one that a refused setup hands back.
+impl Streams {
     fn new() -> Self {
-        let refused = Gateway::setup(&[], 0);
-        let gateway = refused.gateway;
-        Progress {
-            gateway,
+        Streams {
             input: Input::new(),
             output: Output::new(),
         }
     }
 
-    // With the answers so far written, and more read.
+    // With the answers so far written, and then more read.
     fn with_more(self, bytes: &mut [u8], out: &[u8]) -> Self {
-        let gateway = self.gateway;
         let input = self.input;
         let output = self.output;
-        Progress {
-            gateway,
+        let flushed = output.flushed(out, 0);
+        Streams {
             input: input.more(bytes),
-            output: output.flushed(out, 0),
+            output: flushed,
+        }
+    }
+
+    // With the line passed that ends at a place, and its answer waiting up to a place, or written where many wait.
+    fn with_answer(self, line_end: usize, answer_end: usize, out: &[u8]) -> Self {
+        let input = self.input;
+        let output = self.output;
+        Streams {
+            input: input.passed(line_end),
+            output: output.up_to(answer_end).flushed(out, MOST_WAITING),
         }
     }
 
     // There is nothing more to read, or no way to write.
-    fn is_over(self) -> bool {
+    fn are_over(self) -> bool {
         if self.output.failed {
             return true;
         }
@@ -79,72 +83,82 @@ impl Progress {
     }
 }
 
-// Reads, and answers the lines that are whole, until the input ends; then the last line, which may lack its newline. A proved loop has to
-// end, and nothing says that the input does, so it counts its turns down from a number that no run uses up.
+// Reads, and answers the lines that are whole, until the input ends; then the last line, which may lack its newline. The gateway at the
+// start is the one that a refused setup hands back. A proved loop has to end, and nothing says that the input does, so it counts its
+// turns down from a number that no run uses up.
 fn replay_all(bytes: &mut [u8], numbers: &mut [u16], out: &mut [u8]) {
-    let mut progress = Progress::new();
+    let refused = Gateway::setup(&[], 0);
+    let mut gateway = refused.gateway;
+    let mut streams = Streams::new();
     let mut turns = u64::MAX;
     while turns != 0 {
-        progress = progress.with_more(bytes, out);
-        if progress.is_over() {
-            answer_last(progress, bytes, numbers, out);
+        streams = streams.with_more(bytes, out);
+        if streams.are_over() {
+            answer_last(gateway, streams, bytes, numbers, out);
             return;
         }
-        progress = answer_lines(progress, bytes, numbers, out);
+        let progress = answer_lines(gateway, streams, bytes, numbers, out);
+        gateway = progress.gateway;
+        streams = progress.streams;
         turns -= 1;
     }
 }
 
-// Answers the lines that are whole. Each takes a byte of the buffer at least, so there are no more of them than bytes.
-fn answer_lines(
-    progress: Progress,
-    bytes: &mut [u8],
-    numbers: &mut [u16],
-    out: &mut [u8],
-) -> Progress {
-    let mut progress = progress;
-    let mut left = bytes.len();
-    while left != 0 {
-        let input = progress.input;
-        let end = line_end(bytes, input.start, input.end);
-        if end == NO_LINE {
-            return progress;
-        }
-        progress = answer_next(progress, end, bytes, numbers, out);
-        left -= 1;
-    }
-    progress
+// The gateway and the streams after some lines.
+struct Progress {
+    gateway: Gateway,
+    streams: Streams,
 }
 
-// Answers the line that waits and ends at a place, and writes the answers where there are many.
-fn answer_next(
-    progress: Progress,
-    end: usize,
+// Answers the lines that are whole. Each takes a byte of the buffer at least, so there are no more of them than bytes.
+fn answer_lines(
+    gateway: Gateway,
+    streams: Streams,
     bytes: &mut [u8],
     numbers: &mut [u16],
     out: &mut [u8],
 ) -> Progress {
-    let gateway = progress.gateway;
-    let input = progress.input;
-    let output = progress.output;
-    let answered = answer_waiting(gateway, input, end, bytes, numbers, out, output.end);
-    let next = answered.gateway;
-    Progress {
-        gateway: next,
-        input: input.passed(end),
-        output: output.up_to(answered.end).flushed(out, MOST_WAITING),
+    let mut gateway = gateway;
+    let mut streams = streams;
+    let mut left = bytes.len();
+    while left != 0 {
+        let input = streams.input;
+        let end = line_end(bytes, input.start, input.end);
+        if end == NO_LINE {
+            return Progress { gateway, streams };
+        }
+        let answered = answer_waiting(gateway, input, end, bytes, numbers, out, streams.output.end);
+        gateway = answered.gateway;
+        streams = streams.with_answer(end, answered.end, out);
+        left -= 1;
     }
+    Progress { gateway, streams }
 }
 
 // Answers what waits at the end of the input.
-fn answer_last(progress: Progress, bytes: &mut [u8], numbers: &mut [u16], out: &mut [u8]) {
-    let end = progress.input.end;
-    let last = answer_next(progress, end, bytes, numbers, out);
+fn answer_last(
+    gateway: Gateway,
+    streams: Streams,
+    bytes: &mut [u8],
+    numbers: &mut [u16],
+    out: &mut [u8],
+) {
+    let input = streams.input;
+    let answered = answer_waiting(
+        gateway,
+        input,
+        input.end,
+        bytes,
+        numbers,
+        out,
+        streams.output.end,
+    );
+    let last = streams.with_answer(input.end, answered.end, out);
     let output = last.output;
     output.flushed(out, 0);
 }
 
-// Answers the line that waits and ends at a place.
+// Answers the line that waits and ends at a place. Only a call to the gateway hands it on.
 fn answer_waiting(
     gateway: Gateway,
     input: Input,
@@ -154,93 +168,80 @@ fn answer_waiting(
     out: &mut [u8],
     at: usize,
 ) -> Answered {
-    let start = input.start;
-    let number = input.number();
-    if input.cut {
-        return answer_cut(gateway, input.comment, number, out, at);
-    }
-    if end < start {
-        return Answered { gateway, end: at };
-    }
-    if bytes.len() < end {
-        return Answered { gateway, end: at };
-    }
-    answer_line(gateway, &mut bytes[start..end], number, numbers, out, at)
-}
-
-// Answers a line that is longer than the buffer.
-fn answer_cut(gateway: Gateway, comment: bool, number: u64, out: &mut [u8], at: usize) -> Answered {
-    if comment {
-        return Answered { gateway, end: at };
-    }
-    Answered {
-        gateway,
-        end: client_side::bad_line(number, out, at),
-    }
-}
-
-fn answer_line(
-    gateway: Gateway,
-    line: &mut [u8],
-    number: u64,
-    numbers: &mut [u16],
-    out: &mut [u8],
-    at: usize,
-) -> Answered {
-    if line.len() == 0 {
-        return Answered { gateway, end: at };
-    }
-    if is_comment(line) {
-        return Answered { gateway, end: at };
-    }
-    if MOST_LINE < line.len() {
-        return Answered {
-            gateway,
-            end: client_side::bad_line(number, out, at),
-        };
-    }
-    if is_word(line, 0, b"write") {
-        return Answered {
-            gateway,
-            end: fields::answer(line, number, numbers, out, at),
-        };
-    }
-    let said = lines::read(line, numbers);
-    answer_call(gateway, said, line, numbers, number, out, at)
-}
-
-fn answer_call(
-    gateway: Gateway,
-    said: Said,
-    line: &[u8],
-    numbers: &[u16],
-    number: u64,
-    out: &mut [u8],
-    at: usize,
-) -> Answered {
+    let said = read_waiting(input, end, bytes, numbers);
+    let line = Part {
+        start: input.start,
+        end,
+    };
     match said {
-        Said::ToGateway(call, bytes, nonce) => gateway_side::answer(
-            gateway,
-            call,
-            bytes_of(line, bytes),
-            bytes_of(line, nonce),
-            out,
-            at,
-        ),
-        Said::ToClient(call, bytes, kems, pairs) => Answered {
-            gateway,
-            end: client_side::answer(
+        Said::ToGateway(call, first, second) => {
+            let shared = bytes_of(bytes, line);
+            gateway_side::answer(
+                gateway,
                 call,
-                bytes_of(line, bytes),
-                numbers_of(numbers, kems),
-                numbers_of(numbers, pairs),
+                bytes_of(shared, first),
+                bytes_of(shared, second),
                 out,
                 at,
-            ),
+            )
+        }
+        Said::ToClient(call, first, kems, pairs) => {
+            let shared = bytes_of(bytes, line);
+            Answered {
+                gateway,
+                end: client_side::answer(
+                    call,
+                    bytes_of(shared, first),
+                    numbers_of(numbers, kems),
+                    numbers_of(numbers, pairs),
+                    out,
+                    at,
+                ),
+            }
+        }
+        Said::ToWriter => Answered {
+            gateway,
+            end: fields::answer(bytes, line, input.number(), numbers, out, at),
         },
         Said::NoCall => Answered {
             gateway,
-            end: client_side::bad_line(number, out, at),
+            end: client_side::bad_line(input.number(), out, at),
         },
+        Said::Nothing => Answered { gateway, end: at },
     }
+}
+
+// What the line that waits and ends at a place says. Its bytes are decoded in the buffer.
+fn read_waiting(input: Input, end: usize, bytes: &mut [u8], numbers: &mut [u16]) -> Said {
+    let start = input.start;
+    if input.cut {
+        return too_long(input.comment);
+    }
+    if end < start {
+        return Said::Nothing;
+    }
+    if bytes.len() < end {
+        return Said::Nothing;
+    }
+    read_line(&mut bytes[start..end], numbers)
+}
+
+fn too_long(comment: bool) -> Said {
+    if comment {
+        return Said::Nothing;
+    }
+    Said::NoCall
+}
+
+fn read_line(line: &mut [u8], numbers: &mut [u16]) -> Said {
+    if line.len() == 0 {
+        return Said::Nothing;
+    }
+    if is_comment(line) {
+        return Said::Nothing;
+    }
+    if MOST_LINE < line.len() {
+        return Said::NoCall;
+    }
+    lines::read(line, numbers)
 }

@@ -232,19 +232,15 @@ fn decode(line: &mut [u8], at: usize, to: usize, count: usize) -> usize
 const NO_HEXADECIMAL: u8 = 16;
 
 fn hexadecimal_digit(character: u8) -> u8 {
-    if character < b'0' {
-        return NO_HEXADECIMAL;
+    let digit = std::num::wrapping_sub_u8(character, b'0');
+    if digit < 10 {
+        return digit;
     }
-    if character <= b'9' {
-        return character - b'0';
+    let letter = std::num::wrapping_sub_u8(character, b'a');
+    if letter < 6 {
+        return letter + 10;
     }
-    if character < b'a' {
-        return NO_HEXADECIMAL;
-    }
-    if b'f' < character {
-        return NO_HEXADECIMAL;
-    }
-    character - b'a' + 10
+    NO_HEXADECIMAL
 }
 
 fn are_digits(high: u8, low: u8) -> bool {

@@ -9,68 +9,76 @@ use Rattle.sealwax.proofs.answer_lines.Statement.{statement}
 use Rattle.sealwax.proofs.answer_lines.Tie as tie
 use Rattle.sealwax.proofs.answer_lines.Reads as reads
 use Rattle.sealwax.proofs.answer_lines.Lts as lts
-use Rattle.sealwax.proofs.answer_next.Reads as answer-next-reads
+use Rattle.sealwax.proofs.Streams.with_answer.Reads as with-answer-reads
+use Rattle.sealwax.proofs.answer_waiting.Reads as answer-waiting-reads
 use Rattle.sealwax.proofs.input.line_end.Reads as line-end-reads
 
 abbrev Inv-loop : tie.InvT-loop
-Inv-loop bytes₀ numbers₀ out₀ progress₀ left₀ bytes numbers out progress left = (length bytes ≡ length bytes₀) × (length numbers ≡ length numbers₀) × (length out ≡ length out₀)
+Inv-loop bytes₀ numbers₀ out₀ gateway₀ streams₀ left₀ bytes numbers out gateway streams left = (length bytes ≡ length bytes₀) × (length numbers ≡ length numbers₀) × (length out ≡ length out₀)
 
 abbrev μ-loop : tie.MeasureT-loop
-μ-loop bytes₀ numbers₀ out₀ progress₀ left₀ bytes numbers out progress left = left
+μ-loop bytes₀ numbers₀ out₀ gateway₀ streams₀ left₀ bytes numbers out gateway streams left = left
 
--- src/main.rt:107:5
+-- src/main.rt:124:5
 loop-holds : tie.Need-loop-holds Inv-loop μ-loop
 loop-holds c = search needs
 
--- src/main.rt:109:13
+-- src/main.rt:126:13
 line-end-requires : tie.Need-line-end-requires Inv-loop μ-loop
 line-end-requires c κs = search needs
 
--- src/main.rt:111:13
+-- src/main.rt:128:13
 same-length : tie.Need-same-length Inv-loop μ-loop
 same-length c = search needs
 
--- src/main.rt:111:13
+-- src/main.rt:128:13
 same-length-2 : tie.Need-same-length-2 Inv-loop μ-loop
 same-length-2 c = search needs
 
--- src/main.rt:111:13
+-- src/main.rt:128:13
 same-length-3 : tie.Need-same-length-3 Inv-loop μ-loop
 same-length-3 c = search needs
 
--- src/main.rt:111:13
+-- src/main.rt:128:13
 returns : tie.Need-returns Inv-loop μ-loop
 returns c = search needs
 
--- src/main.rt:113:9
-answer-next-requires : tie.Need-answer-next-requires Inv-loop μ-loop
-answer-next-requires c κs = search needs
+-- src/main.rt:130:13
+answer-waiting-requires : tie.Need-answer-waiting-requires Inv-loop μ-loop
+answer-waiting-requires c κs = search needs
 
--- src/main.rt:114:9
+-- src/main.rt:132:9
+with-answer-requires : tie.Need-with-answer-requires Inv-loop μ-loop
+with-answer-requires c κs = search needs
+
+-- src/main.rt:133:9
 sub-left : tie.Need-sub-left Inv-loop μ-loop
 sub-left c = search needs
 
--- src/main.rt:107:5
+-- src/main.rt:124:5
 loop-less : tie.Need-loop-less Inv-loop μ-loop
 loop-less c = search needs
 
--- src/main.rt:107:5
+-- src/main.rt:124:5
 loop-again : tie.Need-loop-again Inv-loop μ-loop
-loop-again c = search needs
+loop-again c =
+    let answered = c .before .before .before .before .before .before .before .before .before in
+    let l = answered .before .before .before .before .before .before .before .before .before .loop in
+    (omega (arith, l .inv .0), omega (arith, l .inv .1), omega (arith, l .inv .2))
 
--- src/main.rt:99:1
+-- src/main.rt:114:1
 same-length-4 : tie.Need-same-length-4 Inv-loop μ-loop
 same-length-4 c = search needs
 
--- src/main.rt:99:1
+-- src/main.rt:114:1
 same-length-5 : tie.Need-same-length-5 Inv-loop μ-loop
 same-length-5 c = search needs
 
--- src/main.rt:99:1
+-- src/main.rt:114:1
 same-length-6 : tie.Need-same-length-6 Inv-loop μ-loop
 same-length-6 c = search needs
 
--- src/main.rt:99:1
+-- src/main.rt:114:1
 returns-2 : tie.Need-returns-2 Inv-loop μ-loop
 returns-2 c = search needs
 
@@ -86,7 +94,8 @@ answer-lines-spec =
     same-length-2
     same-length-3
     returns
-    answer-next-requires
+    answer-waiting-requires
+    with-answer-requires
     sub-left
     loop-less
     loop-again

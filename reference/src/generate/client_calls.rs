@@ -1,0 +1,224 @@
+//! The calls of the client side and on key lists.
+
+use super::key_lists::{
+    configurations, kem, known_number, nearly_right, number, small, small_count, unknown_kem,
+    unknown_number, KEMS,
+};
+use crate::algorithms::{nenc, response_nonce_length, HEAD_LENGTH};
+use crate::answer::hex;
+use crate::key_list::{read_list, Configuration};
+use crate::list_writer::{encode, Fields};
+use crate::random::Random;
+
+/// A longer list of the last setup is used seldom, so that lines stay short.
+const SHORT_LIST: usize = 150;
+
+pub fn check(random: &mut Random, last: &[u8]) -> String {
+    format!("check {}", hex(&some_list(random, last)))
+}
+
+pub fn key(random: &mut Random, last: &[u8]) -> String {
+    let list = some_list(random, last);
+    let read = read_list(&list).unwrap_or_default();
+    let id = if read.is_empty() || random.one_in(4) {
+        random.byte()
+    } else {
+        read[random.below(read.len())].id
+    };
+    format!("key {} {id}", hex(&list))
+}
+
+pub fn choose(random: &mut Random, last: &[u8]) -> String {
+    let list = some_list(random, last);
+    let read = read_list(&list).unwrap_or_default();
+    let kems = client_kems(random, &read);
+    let pairs = client_pairs(random, &read);
+    format!(
+        "choose {} {} {}",
+        hex(&list),
+        numbers(&kems),
+        numbers(&pairs)
+    )
+}
+
+/// The last setup's list, a good one or a nearly right one.
+fn some_list(random: &mut Random, last: &[u8]) -> Vec<u8> {
+    let use_last = last.len() <= SHORT_LIST || random.one_in(20);
+    match random.below(10) {
+        0..=3 if use_last => last.to_vec(),
+        4..=6 => nearly_right(random),
+        _ => small(random),
+    }
+}
+
+fn client_kems(random: &mut Random, read: &[Configuration]) -> Vec<u16> {
+    let mut kems = Vec::new();
+    for configuration in read {
+        if !random.one_in(3) {
+            kems.push(configuration.kem);
+        }
+    }
+    if random.one_in(4) {
+        kems.push(unknown_kem(random));
+    }
+    if random.one_in(4) {
+        kems.insert(0, random.pick(&KEMS));
+    }
+    kems
+}
+
+/// KDF and AEAD by turns, some of them the list's; now and then one number too few.
+fn client_pairs(random: &mut Random, read: &[Configuration]) -> Vec<u16> {
+    let mut pairs = Vec::new();
+    for pair in read.iter().flat_map(|configuration| &configuration.pairs) {
+        match random.below(4) {
+            0 => pairs.extend([pair.kdf, pair.aead]),
+            1 => pairs.extend([pair.aead, pair.kdf]),
+            _ => {}
+        }
+    }
+    if random.one_in(3) {
+        pairs.extend([known_number(random), known_number(random)]);
+    }
+    if random.one_in(5) {
+        pairs.extend([known_number(random), unknown_number(random)]);
+    }
+    if random.one_in(6) {
+        pairs.push(known_number(random));
+    }
+    pairs
+}
+
+/// Numbers of four hex digits, run together.
+fn numbers(numbers: &[u16]) -> String {
+    let bytes: Vec<u8> = numbers.iter().flat_map(|n| n.to_be_bytes()).collect();
+    hex(&bytes)
+}
+
+pub fn head(random: &mut Random) -> String {
+    let named = kem(random);
+    let right = nenc(named).unwrap_or(0);
+    let enc = match random.below(8) {
+        0 => random.one_off(right),
+        1 => random.pick(&[0, 32, 56, 65, 97, 133]),
+        _ => right,
+    };
+    let named = if random.one_in(8) {
+        unknown_kem(random)
+    } else {
+        named
+    };
+    format!(
+        "head {} {:04x} {:04x} {:04x} {} {} {}",
+        random.byte(),
+        named,
+        number(random),
+        number(random),
+        hex(&random.bytes(enc)),
+        head_room(random, HEAD_LENGTH + right),
+        head_room(random, 29)
+    )
+}
+
+fn head_room(random: &mut Random, enough: usize) -> usize {
+    match random.below(12) {
+        0 => enough - 1,
+        1 => enough + 1,
+        2 => random.pick(&[0, 256]),
+        3 => random.below(257),
+        _ => enough,
+    }
+}
+
+pub fn split(random: &mut Random) -> String {
+    let aead = number(random);
+    let nonce = response_nonce_length(aead).unwrap_or(32);
+    let length = match random.below(8) {
+        0 => nonce + 15,
+        1 | 2 => nonce + 16,
+        3 => 12 + random.between(15, 16),
+        4 => random.pick(&[0, 1, nonce, nonce + 1]),
+        _ => nonce + random.between(16, 100),
+    };
+    let long = [nonce + 65_552, nonce + 65_553, nonce + 65_553, 70_000];
+    let length = if random.one_in(75) {
+        random.pick(&long)
+    } else {
+        length
+    };
+    format!("split {:04x} {}", aead, hex(&random.bytes(length)))
+}
+
+pub fn write(random: &mut Random, last: &[u8]) -> String {
+    let mut given = given_configurations(random, last);
+    if random.one_in(3) {
+        spoil(random, &mut given);
+    }
+    let length: usize = given.iter().map(|fields| encode(fields).len()).sum();
+    let room = match random.below(8) {
+        0 | 1 => length.saturating_sub(1),
+        2 => length + random.below(20),
+        3 => random.pick(&[0, 4_096]),
+        _ => length,
+    };
+    let mut line = format!("write {}", room.min(4_096));
+    for fields in &given {
+        line.push_str(&format!(
+            " {} {:04x} {} {}",
+            fields.id,
+            fields.kem,
+            hex(&fields.public_key),
+            numbers(&fields.pairs)
+        ));
+    }
+    line
+}
+
+/// What the last setup's list holds, or new configurations.
+fn given_configurations(random: &mut Random, last: &[u8]) -> Vec<Fields> {
+    let use_last = last.len() <= SHORT_LIST || random.one_in(20);
+    let read = read_list(last).unwrap_or_default();
+    if use_last && !read.is_empty() && random.one_in(3) {
+        return read.into_iter().map(|c| read_fields(last, c)).collect();
+    }
+    let count = match random.below(40) {
+        0 => random.pick(&[16, 17, 17]),
+        _ => small_count(random),
+    };
+    configurations(random, count)
+}
+
+fn read_fields(list: &[u8], read: Configuration) -> Fields {
+    let pairs = read.pairs.iter().flat_map(|pair| [pair.kdf, pair.aead]);
+    Fields {
+        id: read.id,
+        kem: read.kem,
+        public_key: list[read.public_key].to_vec(),
+        pairs: pairs.collect(),
+    }
+}
+
+/// Breaks a rule of the layout in one place.
+fn spoil(random: &mut Random, given: &mut Vec<Fields>) {
+    let place = random.below(given.len());
+    let fields = &mut given[place];
+    match random.below(10) {
+        0 => given.clear(),
+        1 | 2 => {
+            let length = fields.public_key.len();
+            fields.public_key.resize(random.one_off(length), 0);
+        }
+        3 => fields.public_key.resize(random.pick(&[0, 1, 32, 255]), 0),
+        4 => fields.kem = unknown_kem(random),
+        5 => fields.kem = random.pick(&KEMS),
+        6 => fields.pairs.clear(),
+        7 => fields.pairs.resize(random.pick(&[32, 33, 34, 40]), 2),
+        8 => {
+            fields.pairs.pop();
+        }
+        _ => {
+            let twin = fields.clone();
+            given.push(twin);
+        }
+    }
+}

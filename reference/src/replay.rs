@@ -1,0 +1,181 @@
+//! The program of REPLAY.md: a call list in, an answer for each call out.
+
+use crate::call::{Line, LONGEST_LINE};
+use crate::gateway::Gateway;
+use crate::lines::Lines;
+use crate::perform::perform;
+use std::io::{self, BufRead, Write};
+
+/// The gateway that is held and the number of lines seen.
+pub struct Replay {
+    pub gateway: Gateway,
+    line_number: u64,
+}
+
+impl Replay {
+    pub fn new() -> Replay {
+        Replay {
+            gateway: Gateway::without_keys(),
+            line_number: 0,
+        }
+    }
+
+    /// The answer to the next line; none where it is passed over.
+    pub fn answer(&mut self, line: &Line) -> Option<String> {
+        self.line_number += 1;
+        match line {
+            Line::PassedOver => None,
+            Line::Bad => Some(format!("bad line {}", self.line_number)),
+            Line::Call(call) => Some(perform(&mut self.gateway, call)),
+        }
+    }
+}
+
+/// Answers all lines of the input; `read` says what each line is.
+pub fn replay(
+    input: impl BufRead,
+    output: &mut impl Write,
+    read: fn(&[u8]) -> Line,
+) -> io::Result<()> {
+    let mut lines = Lines::new(input, LONGEST_LINE);
+    let mut replay = Replay::new();
+    while let Some(line) = lines.read()? {
+        if let Some(mut answer) = replay.answer(&read(line)) {
+            answer.push('\n');
+            output.write_all(answer.as_bytes())?;
+        }
+    }
+    output.flush()
+}
+
+#[cfg(test)]
+mod tests {
+    use super::*;
+    use crate::call::{read_edges_line, read_line};
+
+    fn answers(input: &str, read: fn(&[u8]) -> Line) -> String {
+        let mut output = Vec::new();
+        replay(input.as_bytes(), &mut output, read).unwrap();
+        String::from_utf8(output).unwrap()
+    }
+
+    fn edge_list() -> String {
+        format!("0029070020{}000400010003", "11".repeat(32))
+    }
+
+    #[test]
+    fn a_small_day() {
+        let calls = [
+            "# a comment, then an empty line".to_string(),
+            String::new(),
+            "report".to_string(),
+            format!("setup 1 {}", edge_list()),
+            format!("admit 07002000010003{} 30", "00".repeat(48)),
+            "open 1 ok 0".to_string(),
+            format!("respond 1 {} {} 3 65", "01".repeat(32), "02".repeat(32)),
+            "abandon 1".to_string(),
+            "retire 7".to_string(),
+            format!("admit 07002000010003{} 1", "00".repeat(48)),
+            "no call".to_string(),
+            "report".to_string(),
+            format!("setup 0 {}", edge_list()),
+            "report".to_string(),
+        ];
+        let info = "6d6573736167652f626874747020726571756573740007002000010003";
+        let (enc, nonce) = ("01".repeat(32), "02".repeat(32));
+        let expected = [
+            "report last=0 pending=0 keys=-".to_string(),
+            "ready keys=1".to_string(),
+            format!(
+                "admitted ticket=1 key=7 kdf=0001 aead=0003 enc=7..39 ciphertext=39..55 \
+                 buffer={info}a5"
+            ),
+            "opened".to_string(),
+            format!("sealed status=200 length=51 buffer={enc}{nonce}a5"),
+            "refused 11".to_string(),
+            "retired".to_string(),
+            "refused 7 status=400 ohttp-key buffer=a5".to_string(),
+            "bad line 11".to_string(),
+            "report last=1 pending=0 keys=7:1:retired".to_string(),
+            "refused 17".to_string(),
+            "report last=0 pending=0 keys=-".to_string(),
+        ];
+        // The last line needs no newline.
+        let output = answers(&calls.join("\n"), read_line);
+        assert_eq!(output, expected.join("\n") + "\n");
+    }
+
+    #[test]
+    fn statuses_of_admit() {
+        let long =
+            |kem: &str, bytes: usize| format!("admit 07{kem}00010003{} 0", "00".repeat(bytes));
+        let calls = [
+            format!("setup 1 {}", edge_list()),
+            "admit - 0".to_string(),
+            long("0022", 65_530),
+            long("0022", 48),
+            long("0010", 88),
+            long("0020", 48),
+        ];
+        let expected = [
+            "ready keys=1",
+            "refused 1 status=400 buffer=-",
+            "refused 2 status=413 buffer=-",
+            "refused 3 status=400 buffer=-",
+            "refused 5 status=400 ohttp-key buffer=-",
+            "refused 14 status=500 buffer=-",
+            "",
+        ];
+        assert_eq!(answers(&calls.join("\n"), read_line), expected.join("\n"));
+    }
+
+    #[test]
+    fn client_calls() {
+        let list = edge_list();
+        let key = "11".repeat(32);
+        let calls = [
+            format!("check {list}"),
+            format!("check {list}{list}"),
+            format!("key {list} 7"),
+            format!("key {list} 8"),
+            format!("choose {list} 00100020 00010003"),
+            format!("choose {list} - 0001"),
+            format!("head 7 0020 0001 0003 {key} 40 28"),
+            format!("split 0001 {}", "22".repeat(32)),
+            format!("write 44 7 0020 {key} 00010003"),
+            format!("write 42 7 0020 {key} 00010003"),
+            "write 1".to_string(),
+        ];
+        let buffer = "a5".repeat(40);
+        let nonce = "22".repeat(16);
+        let expected = [
+            "good configurations=1".to_string(),
+            "refused 15 at 43".to_string(),
+            format!("key {key}"),
+            "refused 4".to_string(),
+            "chosen key=7 kem=0020 kdf=0001 aead=0003 public=5..37".to_string(),
+            "refused 13".to_string(),
+            format!("refused 14 buffer={buffer} info={}", "a5".repeat(28)),
+            format!("split nonce={nonce} ciphertext={nonce}"),
+            format!("written length=43 buffer={list}a5"),
+            format!("refused 14 buffer={}", "a5".repeat(42)),
+            "refused 15 at 0 buffer=a5".to_string(),
+            String::new(),
+        ];
+        assert_eq!(answers(&calls.join("\n"), read_line), expected.join("\n"));
+    }
+
+    #[test]
+    fn the_exporter_call() {
+        let calls = "exporter 0001\nexporter 0003\nexporter ffff\n";
+        let context = "6d6573736167652f626874747020726573706f6e7365";
+        let expected = format!(
+            "exporter context={context} secret=16\nexporter context={context} secret=32\nrefused 6\n"
+        );
+        assert_eq!(answers(calls, read_edges_line), expected);
+        assert_eq!(
+            answers(calls, read_line),
+            "bad line 1\nbad line 2\nbad line 3\n"
+        );
+    }
+}
