@@ -100,18 +100,6 @@ pub fn read_line(line: &[u8]) -> Line {
     }
 }
 
-/// Reads a line of `edges`, which has the call `exporter AEAD` too.
-pub fn read_edges_line(line: &[u8]) -> Line {
-    let exporter = line
-        .strip_prefix(b"exporter ")
-        .and_then(read_number)
-        .map(|aead| Call::Exporter { aead });
-    match exporter {
-        Some(call) => Line::Call(call),
-        None => read_line(line),
-    }
-}
-
 fn read_call(line: &[u8]) -> Option<Call> {
     // An empty word is read as no word of any kind below.
     let words: Vec<&[u8]> = line.split(|byte| *byte == b' ').collect();
@@ -267,7 +255,7 @@ fn read_numbers(word: &[u8]) -> Option<Vec<u16>> {
 }
 
 /// A KEM, KDF or AEAD number: exactly four hex digits.
-fn read_number(word: &[u8]) -> Option<u16> {
+pub fn read_number(word: &[u8]) -> Option<u16> {
     if word.len() != 4 {
         return None;
     }
@@ -415,14 +403,5 @@ mod tests {
         let comment = format!("#{}", "0".repeat(150_000));
         assert_eq!(read_line(comment.as_bytes()), Line::PassedOver);
         assert_eq!(read_line(b""), Line::PassedOver);
-    }
-
-    #[test]
-    fn the_exporter_call_is_for_edges_alone() {
-        let call = Line::Call(Call::Exporter { aead: 1 });
-        assert_eq!(read_edges_line(b"exporter 0001"), call);
-        assert_eq!(read_edges_line(b"exporter 1"), Line::Bad);
-        assert_eq!(read_edges_line(b"report"), Line::Call(Call::Report));
-        assert_eq!(read_line(b"exporter 0001"), Line::Bad);
     }
 }

@@ -8,6 +8,7 @@ mod call;
 mod client;
 mod compare;
 mod day;
+mod edges;
 mod gateway;
 mod generate;
 mod keeper;
@@ -53,7 +54,7 @@ fn run(words: &[&str]) -> io::Result<i32> {
     let mut output = BufWriter::with_capacity(1 << 16, io::stdout());
     match words {
         ["replay"] => replay::replay(input, &mut output, call::read_line)?,
-        ["edges"] => replay::replay(input, &mut output, call::read_edges_line)?,
+        ["edges"] => replay::replay(input, &mut output, edges::read_edges_line)?,
         ["generate", seed, calls] => {
             generate::generate(number(seed)?, number(calls)?, &mut output)?;
         }

@@ -51,7 +51,8 @@ pub fn replay(
 #[cfg(test)]
 mod tests {
     use super::*;
-    use crate::call::{read_edges_line, read_line};
+    use crate::call::read_line;
+    use crate::edges::read_edges_line;
 
     fn answers(input: &str, read: fn(&[u8]) -> Line) -> String {
         let mut output = Vec::new();
