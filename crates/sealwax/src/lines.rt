@@ -34,53 +34,101 @@ pub(crate) enum Said {
     Nothing,
 }
 
-// Reads a line that is neither empty nor a comment.
-pub(crate) fn read(line: &mut [u8], numbers: &mut [u16]) -> Said {
-    let at = behind(line, 0);
+// The calls, by number; 0 where a word names none.
+const SETUP: u8 = 1;
+
+const ADMIT: u8 = 2;
+
+const OPEN: u8 = 3;
+
+const RESPOND: u8 = 4;
+
+const ABANDON: u8 = 5;
+
+const RETIRE: u8 = 6;
+
+const REPORT: u8 = 7;
+
+const CHECK: u8 = 8;
+
+const KEY: u8 = 9;
+
+const CHOOSE: u8 = 10;
+
+const HEAD: u8 = 11;
+
+const SPLIT: u8 = 12;
+
+const WRITE: u8 = 13;
+
+// The call that the line's first word names.
+fn named(line: &[u8]) -> u8 {
     if is_word(line, 0, b"admit") {
-        return admit(line, at);
+        return ADMIT;
     }
     if is_word(line, 0, b"open") {
-        return open_result(line, at);
+        return OPEN;
     }
     if is_word(line, 0, b"respond") {
-        return respond(line, at);
+        return RESPOND;
     }
     if is_word(line, 0, b"abandon") {
-        return abandon(line, at);
+        return ABANDON;
     }
     if is_word(line, 0, b"setup") {
-        return setup(line, at);
+        return SETUP;
     }
     if is_word(line, 0, b"retire") {
-        return retire(line, at);
+        return RETIRE;
     }
     if is_word(line, 0, b"report") {
-        return report(line, at);
+        return REPORT;
     }
-    read_client(line, at, numbers)
+    named_on_client_side(line)
 }
 
-fn read_client(line: &mut [u8], at: usize, numbers: &mut [u16]) -> Said {
+fn named_on_client_side(line: &[u8]) -> u8 {
     if is_word(line, 0, b"check") {
-        return check(line, at);
+        return CHECK;
     }
     if is_word(line, 0, b"key") {
-        return key(line, at);
+        return KEY;
     }
     if is_word(line, 0, b"choose") {
-        return choose(line, at, numbers);
+        return CHOOSE;
     }
     if is_word(line, 0, b"head") {
-        return head(line, at);
+        return HEAD;
     }
     if is_word(line, 0, b"split") {
-        return split(line, at);
+        return SPLIT;
     }
     if is_word(line, 0, b"write") {
-        return Said::ToWriter;
+        return WRITE;
     }
-    Said::NoCall
+    0
+}
+
+// Reads a line that is neither empty nor a comment.
+pub(crate) fn read(line: &mut [u8], numbers: &mut [u16]) -> Said {
+    let name = named(line);
+    let at = behind(line, 0);
+    match name {
+        SETUP => setup(line, at),
+        ADMIT => admit(line, at),
+        OPEN => open_result(line, at),
+        RESPOND => respond(line, at),
+        ABANDON => abandon(line, at),
+        RETIRE => retire(line, at),
+        REPORT => report(line, at),
+        CHECK => check(line, at),
+        KEY => key(line, at),
+        CHOOSE => choose(line, at, numbers),
+        HEAD => head(line, at),
+        SPLIT => split(line, at),
+        WRITE => Said::ToWriter,
+        _ => Said::NoCall,
+    }
 }
 
 fn setup(line: &mut [u8], at: usize) -> Said {

@@ -124,7 +124,7 @@ fn limits_of_write(random: &mut Random) -> String {
     }
 }
 
-/// Around the limits of 70,000 bytes in a word and of 140,100 in a line.
+/// Around the limits of 70,000 bytes in a word and of 140,100 in a line, and lines far longer.
 fn too_long(random: &mut Random) -> Vec<u8> {
     let line = match random.below(5) {
         0 => format!("admit {} 29", "07".repeat(random.between(70_000, 70_001))),
@@ -134,14 +134,14 @@ fn too_long(random: &mut Random) -> Vec<u8> {
             "choose - {} -",
             "0020".repeat(random.between(35_022, 35_023))
         ),
-        _ => format!("report{}", " ".repeat(200_000)),
+        _ => format!("report{}", " ".repeat(random.between(140_094, 600_000))),
     };
     line.into_bytes()
 }
 
 pub fn comment(random: &mut Random) -> Vec<u8> {
     match random.below(1_000) {
-        0 => format!("#{}", "0".repeat(150_000)).into_bytes(),
+        0 => format!("#{}", "0".repeat(random.between(140_099, 600_000))).into_bytes(),
         1..=300 => Vec::new(),
         301..=400 => b"#report".to_vec(),
         401..=500 => b"# setup 1 -".to_vec(),
