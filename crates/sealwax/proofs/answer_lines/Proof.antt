@@ -1,17 +1,11 @@
-use mathlib.Core.Path.{_≡_, refl, sym, ap, _∙_}
-use Prim.Native.Nat.{ℕ, suc, _+_, _*_, _-_, _≤_, _<_}
+-- `sealwax::answer_lines` is safe and ends. The loop's invariant: the buffers keep their lengths. The measure is how many lines may still come.
+-- Assumes nothing.
+use mathlib.Core.Path.{_≡_}
 use native.Mathlib.Omega.{arith}
 use borrow.Author.Needs.{needs}
-use borrow.Author.Tests.{eq-eqb, ne-eqb, lt-ltb, le-ltb, le-leb, lt-leb}
-use mathlib.Core.Logic.{⊎-elim}
-use lib.ListN.{length, getD, take, drop, set}
+use lib.ListN.{length}
 use Rattle.sealwax.proofs.answer_lines.Statement.{statement}
 use Rattle.sealwax.proofs.answer_lines.Tie as tie
-use Rattle.sealwax.proofs.answer_lines.Reads as reads
-use Rattle.sealwax.proofs.answer_lines.Lts as lts
-use Rattle.sealwax.proofs.Streams.with_answer.Reads as with-answer-reads
-use Rattle.sealwax.proofs.answer_waiting.Reads as answer-waiting-reads
-use Rattle.sealwax.proofs.input.line_end.Reads as line-end-reads
 
 abbrev Inv-loop : tie.InvT-loop
 Inv-loop bytes₀ numbers₀ out₀ gateway₀ streams₀ left₀ bytes numbers out gateway streams left = (length bytes ≡ length bytes₀) × (length numbers ≡ length numbers₀) × (length out ≡ length out₀)
@@ -19,66 +13,51 @@ Inv-loop bytes₀ numbers₀ out₀ gateway₀ streams₀ left₀ bytes numbers 
 abbrev μ-loop : tie.MeasureT-loop
 μ-loop bytes₀ numbers₀ out₀ gateway₀ streams₀ left₀ bytes numbers out gateway streams left = left
 
--- src/main.rt:124:5
 loop-holds : tie.Need-loop-holds Inv-loop μ-loop
 loop-holds c = search needs
 
--- src/main.rt:126:13
 line-end-requires : tie.Need-line-end-requires Inv-loop μ-loop
 line-end-requires c κs = search needs
 
--- src/main.rt:128:13
 same-length : tie.Need-same-length Inv-loop μ-loop
 same-length c = search needs
 
--- src/main.rt:128:13
 same-length-2 : tie.Need-same-length-2 Inv-loop μ-loop
 same-length-2 c = search needs
 
--- src/main.rt:128:13
 same-length-3 : tie.Need-same-length-3 Inv-loop μ-loop
 same-length-3 c = search needs
 
--- src/main.rt:128:13
 returns : tie.Need-returns Inv-loop μ-loop
 returns c = search needs
 
--- src/main.rt:130:13
 answer-waiting-requires : tie.Need-answer-waiting-requires Inv-loop μ-loop
 answer-waiting-requires c κs = search needs
 
--- src/main.rt:132:9
 with-answer-requires : tie.Need-with-answer-requires Inv-loop μ-loop
 with-answer-requires c κs = search needs
 
--- src/main.rt:133:9
 sub-left : tie.Need-sub-left Inv-loop μ-loop
 sub-left c = search needs
 
--- src/main.rt:124:5
 loop-less : tie.Need-loop-less Inv-loop μ-loop
 loop-less c = search needs
 
--- src/main.rt:124:5
 loop-again : tie.Need-loop-again Inv-loop μ-loop
 loop-again c =
     let answered = c .before .before .before .before .before .before .before .before .before in
     let l = answered .before .before .before .before .before .before .before .before .before .loop in
     (omega (arith, l .inv .0), omega (arith, l .inv .1), omega (arith, l .inv .2))
 
--- src/main.rt:114:1
 same-length-4 : tie.Need-same-length-4 Inv-loop μ-loop
 same-length-4 c = search needs
 
--- src/main.rt:114:1
 same-length-5 : tie.Need-same-length-5 Inv-loop μ-loop
 same-length-5 c = search needs
 
--- src/main.rt:114:1
 same-length-6 : tie.Need-same-length-6 Inv-loop μ-loop
 same-length-6 c = search needs
 
--- src/main.rt:114:1
 returns-2 : tie.Need-returns-2 Inv-loop μ-loop
 returns-2 c = search needs
 
