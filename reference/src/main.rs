@@ -28,7 +28,7 @@ use std::fs::{self, File};
 use std::io::{self, BufReader, BufWriter};
 use std::process::exit;
 
-const USAGE: &str = "usage: reference replay | edges
+const USAGE: &str = "usage: reference replay | edges | moved
        reference generate SEED CALLS
        reference day SEED CALLS
        reference compare CALLS-FILE ANSWERS-FILE [NAME] [--least N]";
@@ -59,6 +59,7 @@ fn run(words: &[&str]) -> io::Result<i32> {
             generate::generate(number(seed)?, number(calls)?, &mut output)?;
         }
         ["day", seed, calls] => day::day(number(seed)?, number(calls)?, &mut output)?,
+        ["moved"] => replay::write_moved(input, &mut output)?,
         ["compare", rest @ ..] => return run_compare(rest),
         _ => return usage(),
     }

@@ -1,8 +1,9 @@
 //! The program of REPLAY.md: a call list in, an answer for each call out.
 
-use crate::call::{Line, LONGEST_LINE};
+use crate::call::{read_line, Call, Line, LONGEST_LINE};
 use crate::gateway::Gateway;
 use crate::lines::Lines;
+use crate::moved::{is_gateway_call, moved_order, Answered};
 use crate::perform::perform;
 use std::io::{self, BufRead, Write};
 
@@ -48,10 +49,37 @@ pub fn replay(
     output.flush()
 }
 
+/// Writes one list, setup first, moved as demand 3 says.
+pub fn write_moved(input: impl BufRead, output: &mut impl Write) -> io::Result<()> {
+    let mut lines = Lines::new(input, LONGEST_LINE);
+    let mut replay = Replay::new();
+    let (mut list, mut texts) = (Vec::new(), Vec::new());
+    while let Some(line) = lines.read()? {
+        let read = read_line(line);
+        let answer = replay.answer(&read);
+        match (read, answer) {
+            (Line::Call(Call::Setup { .. }), _) => writeln!(output, "{}", text(line))?,
+            (Line::Call(call), Some(answer)) if is_gateway_call(&call) => {
+                texts.push(text(line));
+                list.push(Answered { call, answer });
+            }
+            _ => {}
+        }
+    }
+    let order = moved_order(&list).map_err(|error| io::Error::new(io::ErrorKind::Other, error))?;
+    for place in order {
+        writeln!(output, "{}", texts[place])?;
+    }
+    output.flush()
+}
+
+fn text(line: &[u8]) -> String {
+    String::from_utf8_lossy(line).to_string()
+}
+
 #[cfg(test)]
 mod tests {
     use super::*;
-    use crate::call::read_line;
     use crate::edges::read_edges_line;
 
     fn answers(input: &str, read: fn(&[u8]) -> Line) -> String {
@@ -104,6 +132,36 @@ mod tests {
         // The last line needs no newline.
         let output = answers(&calls.join("\n"), read_line);
         assert_eq!(output, expected.join("\n") + "\n");
+    }
+
+    #[test]
+    fn a_moved_list() {
+        let admit = format!("admit 07002000010003{} 29", "00".repeat(48));
+        let setup = format!("setup 9 {}", edge_list());
+        let calls = [
+            &setup[..],
+            "# two exchanges",
+            &admit,
+            &admit,
+            "report",
+            "open 2 ok 0",
+            "abandon 9",
+            "abandon 1",
+            "retire 7",
+            "check -",
+        ];
+        let mut output = Vec::new();
+        write_moved(calls.join("\n").as_bytes(), &mut output).unwrap();
+        let moved = [
+            &setup[..],
+            &admit,
+            "abandon 1",
+            &admit,
+            "open 2 ok 0",
+            "retire 7",
+            "",
+        ];
+        assert_eq!(String::from_utf8(output).unwrap(), moved.join("\n"));
     }
 
     #[test]
