@@ -176,39 +176,37 @@ fn answer_waiting(
     match said {
         Said::ToGateway(call, first, second) => {
             let shared = bytes_of(bytes, line);
-            gateway_side::answer(
-                gateway,
+            let first = bytes_of(shared, first);
+            let second = bytes_of(shared, second);
+            gateway_side::answer(gateway, call, first, second, out, at)
+        }
+        Said::ToClient(call, first, kems, pairs) => Answered {
+            gateway,
+            end: client_side::answer(
                 call,
-                bytes_of(shared, first),
-                bytes_of(shared, second),
+                part_of_line(bytes, line, first),
+                numbers_of(numbers, kems),
+                numbers_of(numbers, pairs),
                 out,
                 at,
-            )
-        }
-        Said::ToClient(call, first, kems, pairs) => {
-            let shared = bytes_of(bytes, line);
-            Answered {
-                gateway,
-                end: client_side::answer(
-                    call,
-                    bytes_of(shared, first),
-                    numbers_of(numbers, kems),
-                    numbers_of(numbers, pairs),
-                    out,
-                    at,
-                ),
-            }
-        }
-        Said::ToWriter => Answered {
-            gateway,
-            end: fields::answer(bytes, line, input.number(), numbers, out, at),
+            ),
         },
-        Said::NoCall => Answered {
-            gateway,
-            end: client_side::bad_line(input.number(), out, at),
-        },
+        Said::ToWriter => {
+            let end = fields::answer(bytes, line, input.number(), numbers, out, at);
+            Answered { gateway, end }
+        }
+        Said::NoCall => {
+            let end = client_side::bad_line(input.number(), out, at);
+            Answered { gateway, end }
+        }
         Said::Nothing => Answered { gateway, end: at },
     }
+}
+
+// A part of a line, which is a part of the buffer.
+fn part_of_line(bytes: &[u8], line: Part, part: Part) -> &[u8] {
+    let shared = bytes_of(bytes, line);
+    bytes_of(shared, part)
 }
 
 // What the line that waits and ends at a place says. Its bytes are decoded in the buffer.
