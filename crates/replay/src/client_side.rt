@@ -1,6 +1,16 @@
 // The calls of the client's side and on key lists, which need no gateway, and the line for what is no call.
+ghost use mathlib.Core.List.{_++_};
+ghost use lib.ListN.{length};
+ghost use Rattle.algorithms.specs.declared.Size.{Size};
+ghost use Rattle.algorithms.specs.Sizes.{sizeOf, knownAead, secretLength};
+ghost use Rattle.keylist.specs.Layout.{parse};
+ghost use Rattle.keylist.specs.Answers.{keyPlaceIn};
+ghost use Rattle.client.specs.Split.{splitAnswer};
+ghost use Rattle.replay.specs.Text.{Wrote, hex, labelled};
+ghost use Rattle.replay.specs.Client.{clientLine, clientText, badLine, checkedText, keyAnswerText, chosenText, choiceText};
+ghost use Rattle.replay.specs.Client.{headText, headAnswerText, splitText, exporterText};
+use crate::MOST_ROOM;
 use crate::text::FILL;
-use crate::text::MOST_ROOM;
 use crate::text::put;
 use crate::text::put_buffer;
 use crate::text::put_code;
@@ -57,13 +67,18 @@ pub fn answer(
     pairs: &[u16],
     out: &mut [u8],
     at: usize,
-) -> usize {
+) -> usize
+    ensures { λ r. ⌜ Wrote (now (out .entry)) at
+        (clientLine call (now (bytes .entry)) (now (kems .entry)) (now (pairs .entry))) (now (out .exit)) r ⌝ }
+{
     let end = put_answer(call, bytes, kems, pairs, out, at);
     put(out, end, b"\n")
 }
 
 // The line for a line that is no call.
-pub fn bad_line(number: u64, out: &mut [u8], at: usize) -> usize {
+pub fn bad_line(number: u64, out: &mut [u8], at: usize) -> usize
+    ensures { λ r. ⌜ Wrote (now (out .entry)) at (badLine number) (now (out .exit)) r ⌝ }
+{
     let end = put_number(out, at, b"bad line ", number);
     put(out, end, b"\n")
 }
@@ -75,7 +90,10 @@ fn put_answer(
     pairs: &[u16],
     out: &mut [u8],
     at: usize,
-) -> usize {
+) -> usize
+    ensures { λ r. ⌜ Wrote (now (out .entry)) at
+        (clientText call (now (bytes .entry)) (now (kems .entry)) (now (pairs .entry))) (now (out .exit)) r ⌝ }
+{
     match call {
         Call::Check => put_checked(out, at, check(bytes)),
         Call::Key(id) => put_key(out, at, bytes, id),
@@ -86,14 +104,19 @@ fn put_answer(
     }
 }
 
-fn put_checked(out: &mut [u8], at: usize, answer: Checked) -> usize {
+fn put_checked(out: &mut [u8], at: usize, answer: Checked) -> usize
+    ensures { λ r. ⌜ Wrote (now (out .entry)) at (checkedText answer) (now (out .exit)) r ⌝ }
+{
     match answer {
         Checked::Good(count) => put_number(out, at, b"good configurations=", count as u64),
         Checked::Refused(refusal) => put_refusal(out, at, refusal),
     }
 }
 
-fn put_key(out: &mut [u8], at: usize, list: &[u8], id: KeyId) -> usize {
+fn put_key(out: &mut [u8], at: usize, list: &[u8], id: KeyId) -> usize
+    ensures { λ r. ⌜ Wrote (now (out .entry)) at
+        (keyAnswerText (now (list .entry)) (keyPlaceIn (id .0) (parse (now (list .entry))))) (now (out .exit)) r ⌝ }
+{
     match key::find(list, id) {
         KeyPlace::Found(_, _) => put_labelled(out, at, b"key ", key::read(list, id)),
         KeyPlace::Refused(refusal) => put_refusal(out, at, refusal),
@@ -101,19 +124,25 @@ fn put_key(out: &mut [u8], at: usize, list: &[u8], id: KeyId) -> usize {
 }
 
 // A label, and bytes in hexadecimal.
-fn put_labelled(out: &mut [u8], at: usize, label: &[u8], bytes: &[u8]) -> usize {
+fn put_labelled(out: &mut [u8], at: usize, label: &[u8], bytes: &[u8]) -> usize
+    ensures { λ r. ⌜ Wrote (now (out .entry)) at (now (label .entry) ++ hex (now (bytes .entry))) (now (out .exit)) r ⌝ }
+{
     let end = put(out, at, label);
     put_hex(out, end, bytes)
 }
 
-fn put_chosen(out: &mut [u8], at: usize, answer: Chosen) -> usize {
+fn put_chosen(out: &mut [u8], at: usize, answer: Chosen) -> usize
+    ensures { λ r. ⌜ Wrote (now (out .entry)) at (chosenText answer) (now (out .exit)) r ⌝ }
+{
     match answer {
         Chosen::Usable(choice) => put_choice(out, at, choice),
         Chosen::Refused(refusal) => put_refusal(out, at, refusal),
     }
 }
 
-fn put_choice(out: &mut [u8], at: usize, choice: Choice) -> usize {
+fn put_choice(out: &mut [u8], at: usize, choice: Choice) -> usize
+    ensures { λ r. ⌜ Wrote (now (out .entry)) at (choiceText choice) (now (out .exit)) r ⌝ }
+{
     let end = put_number(out, at, b"chosen key=", choice.key_id.0 as u64);
     let end = put_code(out, end, b" kem=", choice.kem);
     let end = put_code(out, end, b" kdf=", choice.kdf);
@@ -121,7 +150,9 @@ fn put_choice(out: &mut [u8], at: usize, choice: Choice) -> usize {
     put_range(out, end, b" public=", choice.key_start, choice.key_end)
 }
 
-fn put_head(out: &mut [u8], at: usize, asked: HeadCall, enc: &[u8]) -> usize {
+fn put_head(out: &mut [u8], at: usize, asked: HeadCall, enc: &[u8]) -> usize
+    ensures { λ r. ⌜ Wrote (now (out .entry)) at (headText asked (now (enc .entry))) (now (out .exit)) r ⌝ }
+{
     let key_id = asked.key_id;
     let kem = Kem(asked.kem);
     let kdf = Kdf(asked.kdf);
@@ -144,14 +175,19 @@ fn put_head(out: &mut [u8], at: usize, asked: HeadCall, enc: &[u8]) -> usize {
     put_buffer(out, end, b" info=", &info, info_room)
 }
 
-fn put_head_answer(out: &mut [u8], at: usize, answer: HeadAnswer) -> usize {
+fn put_head_answer(out: &mut [u8], at: usize, answer: HeadAnswer) -> usize
+    ensures { λ r. ⌜ Wrote (now (out .entry)) at (headAnswerText answer) (now (out .exit)) r ⌝ }
+{
     match answer {
         HeadAnswer::Length(length) => put_number(out, at, b"head length=", length as u64),
         HeadAnswer::Refused(refusal) => put_refusal(out, at, refusal),
     }
 }
 
-fn put_split(out: &mut [u8], at: usize, aead: Aead, response: &[u8]) -> usize {
+fn put_split(out: &mut [u8], at: usize, aead: Aead, response: &[u8]) -> usize
+    ensures { λ r. ⌜ Wrote (now (out .entry)) at
+        (splitText (now (response .entry)) (splitAnswer (aead .0) (length (now (response .entry))))) (now (out .exit)) r ⌝ }
+{
     match split::check(aead, response) {
         Parts::NonceEnd(_) => put_parts(
             out,
@@ -163,19 +199,27 @@ fn put_split(out: &mut [u8], at: usize, aead: Aead, response: &[u8]) -> usize {
     }
 }
 
-fn put_parts(out: &mut [u8], at: usize, nonce: &[u8], ciphertext: &[u8]) -> usize {
+fn put_parts(out: &mut [u8], at: usize, nonce: &[u8], ciphertext: &[u8]) -> usize
+    ensures { λ r. ⌜ Wrote (now (out .entry)) at
+        (labelled "split nonce=" (hex (now (nonce .entry))) ++ labelled " ciphertext=" (hex (now (ciphertext .entry)))) (now (out .exit)) r ⌝ }
+{
     let end = put_labelled(out, at, b"split nonce=", nonce);
     put_labelled(out, end, b" ciphertext=", ciphertext)
 }
 
-fn put_exporter(out: &mut [u8], at: usize, aead: Aead) -> usize {
+fn put_exporter(out: &mut [u8], at: usize, aead: Aead) -> usize
+    ensures { λ r. ⌜ Wrote (now (out .entry)) at
+        (exporterText (sizeOf (knownAead (aead .0)) (secretLength (aead .0)))) (now (out .exit)) r ⌝ }
+{
     match aead.secret_length() {
         Size::Bytes(length) => put_secret(out, at, length),
         Size::Unknown => put_refusal(out, at, Refusal::of(Refusal::PAIR_NOT_OFFERED)),
     }
 }
 
-fn put_secret(out: &mut [u8], at: usize, length: usize) -> usize {
+fn put_secret(out: &mut [u8], at: usize, length: usize) -> usize
+    ensures { λ r. ⌜ Wrote (now (out .entry)) at (exporterText (Size.Bytes length)) (now (out .exit)) r ⌝ }
+{
     let end = put_labelled(out, at, b"exporter context=", &exporter_context());
     put_number(out, end, b" secret=", length as u64)
 }

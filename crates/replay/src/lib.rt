@@ -5,3 +5,6 @@ pub mod client_side;
 pub mod gateway_side;
 mod text;
 pub mod writer;
+
+// The most room that a call but `write` lends.
+pub const MOST_ROOM: usize = 256;

@@ -10,15 +10,13 @@ use crate::words::take_numbers;
 use algorithms::Aead;
 use exchange::Ticket;
 use keylist::KeyId;
+use replay::MOST_ROOM;
 use replay::client_side;
 use replay::client_side::HeadCall;
 use replay::gateway_side;
 
 // The most bytes of a request, a response, a list, an enc or a nonce.
 const MOST_BYTES: usize = 70000;
-
-// The most room that a call but `write` lends.
-const MOST_ROOM: u64 = 256;
 
 // The largest key id.
 pub(crate) const MOST_ID: u64 = 255;
@@ -146,7 +144,7 @@ fn setup(line: &mut [u8], at: usize) -> Said {
 
 fn admit(line: &mut [u8], at: usize) -> Said {
     let request = take_bytes(line, at, at, MOST_BYTES);
-    let room = take_number(line, request.next, MOST_ROOM);
+    let room = take_number(line, request.next, MOST_ROOM as u64);
     if !is_end(line, room.next) {
         return Said::NoCall;
     }
@@ -185,7 +183,7 @@ fn respond(line: &mut [u8], at: usize) -> Said {
     let enc = take_bytes(line, ticket.next, ticket.next, MOST_BYTES);
     let nonce = take_bytes(line, enc.next, enc.next, MOST_BYTES);
     let plain = take_number(line, nonce.next, u64::MAX);
-    let room = take_number(line, plain.next, MOST_ROOM);
+    let room = take_number(line, plain.next, MOST_ROOM as u64);
     if !is_end(line, room.next) {
         return Said::NoCall;
     }
@@ -272,8 +270,8 @@ fn choose(line: &mut [u8], at: usize, numbers: &mut [u16]) -> Said {
 fn head(line: &mut [u8], at: usize) -> Said {
     let front = take_front(line, at);
     let enc = take_bytes(line, front.next, front.next, MOST_BYTES);
-    let head_room = take_number(line, enc.next, MOST_ROOM);
-    let info_room = take_number(line, head_room.next, MOST_ROOM);
+    let head_room = take_number(line, enc.next, MOST_ROOM as u64);
+    let info_room = take_number(line, head_room.next, MOST_ROOM as u64);
     if !is_end(line, info_room.next) {
         return Said::NoCall;
     }

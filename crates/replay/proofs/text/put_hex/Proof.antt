@@ -1,14 +1,21 @@
--- `replay::text::put_hex` is safe and ends. The loop's invariant: the output keeps its length. The measure is how many bytes are left.
+-- `replay::text::put_hex` meets its contract. The loop's invariant: the digits of the bytes passed are written.
 -- Assumes nothing.
-use mathlib.Core.Path.{_≡_}
-use Prim.Native.Nat.{_-_}
+use mathlib.Core.Path.{_≡_, ap, _∙_}
+use Prim.Native.Nat.{_-_, _≤_}
+use native.Mathlib.Omega.{arith}
+use native.Mathlib.Numerals.{add-one}
 use borrow.Author.Needs.{needs}
-use lib.ListN.{length}
+use lib.ListN.{length, take}
+use lib.Seq.{take-all}
+use Rattle.replay.specs.Text.{Wrote, hexDigits}
+use Rattle.replay.proofs.Writing.{then, nothing, reworded}
+use Rattle.replay.proofs.Digits.{digits-more, hex-none, hex-some}
 use Rattle.replay.proofs.text.put_hex.Statement.{statement}
 use Rattle.replay.proofs.text.put_hex.Tie as tie
 
 abbrev Inv-loop : tie.InvT-loop
-Inv-loop out₀ at bytes end₀ done₀ out end done = length out ≡ length out₀
+Inv-loop out₀ at bytes end₀ done₀ out end done =
+    (length out ≡ length out₀) × (done ≤ length bytes) × Wrote out₀ at (hexDigits (take done bytes)) out end
 
 abbrev μ-loop : tie.MeasureT-loop
 μ-loop out₀ at bytes end₀ done₀ out end done = length bytes - done
@@ -23,10 +30,11 @@ same-length : tie.Need-same-length Inv-loop μ-loop
 same-length c = search needs
 
 returns : tie.Need-returns Inv-loop μ-loop
-returns c = search needs
+returns c = reworded (hex-none _ (search needs)) (c .before .before .put .ensures)
 
 loop-holds : tie.Need-loop-holds Inv-loop μ-loop
-loop-holds c = search needs
+unfolding hexDigits
+loop-holds c = (search needs, search needs, nothing _ _)
 
 shared-slice-read-put-byte : tie.Need-shared-slice-read-put-byte Inv-loop μ-loop
 shared-slice-read-put-byte c = search needs
@@ -41,13 +49,23 @@ loop-less : tie.Need-loop-less Inv-loop μ-loop
 loop-less c = search needs
 
 loop-again : tie.Need-loop-again Inv-loop μ-loop
-loop-again c = search needs
+loop-again c =
+    let entered = c .before .before .before .before .before .before in
+    let at = entered .loop in
+    let bytes = entered .before .before .before .before .args .bytes .now in (
+      search needs,
+      search needs,
+      reworded (rw add-one (digits-more bytes (at .done) (omega arith))) (then (at .inv .2) (c .before .before .put-byte .ensures)),
+    )
 
 same-length-2 : tie.Need-same-length-2 Inv-loop μ-loop
 same-length-2 c = search needs
 
 returns-2 : tie.Need-returns-2 Inv-loop μ-loop
-returns-2 c = search needs
+returns-2 c =
+    let at = c .before .loop in
+    let bytes = c .before .before .before .before .before .args .bytes .now in
+    reworded (ap hexDigits (take-all (at .done) bytes (omega arith)) ∙ hex-some bytes (omega arith)) (at .inv .2)
 
 pub put-hex-spec : {M : Type 1} → statement M
 put-hex-spec =

@@ -1,4 +1,4 @@
--- `replay::text::room_in` meets its contract: the number is at most the buffer's length.
+-- `replay::text::room_in` meets its contract: the smaller of the two.
 -- Assumes nothing.
 use native.Mathlib.Omega.{arith}
 use Rattle.io.proofs.Counting.{counts}
@@ -6,10 +6,10 @@ use Rattle.replay.proofs.text.room_in.Statement.{statement}
 use Rattle.replay.proofs.text.room_in.Tie as tie
 
 returns : tie.Need-returns
-returns c = counts _ _ (omega arith)
+returns c = (counts _ _ (omega arith), omega arith)
 
 returns-2 : tie.Need-returns-2
-returns-2 c = counts _ _ (omega arith)
+returns-2 c = (counts _ _ (omega arith), omega arith)
 
 pub room-in-spec : {M : Type 1} → statement M
 room-in-spec = tie.close (tie.spec returns returns-2)

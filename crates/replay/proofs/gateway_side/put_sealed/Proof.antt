@@ -1,0 +1,41 @@
+-- `replay::gateway_side::put_sealed` meets its contract.
+-- Assumes nothing.
+use borrow.Author.Needs.{needs}
+use Rattle.wire.specs.Texts.{ascii}
+use Rattle.replay.proofs.Writing.{then}
+use Rattle.replay.proofs.gateway_side.put_sealed.Statement.{statement}
+use Rattle.replay.proofs.gateway_side.put_sealed.Tie as tie
+
+slice-aggregate-put-number : tie.Need-slice-aggregate-put-number
+slice-aggregate-put-number c = search needs
+
+cast-put-number : tie.Need-cast-put-number
+cast-put-number c = search needs
+
+put-number-requires : tie.Need-put-number-requires
+put-number-requires c κs = search needs
+
+slice-aggregate-put-number-2 : tie.Need-slice-aggregate-put-number-2
+slice-aggregate-put-number-2 c = search needs
+
+put-number-requires-2 : tie.Need-put-number-requires-2
+put-number-requires-2 c κs = search needs
+
+same-length : tie.Need-same-length
+same-length c = search needs
+
+returns : tie.Need-returns
+unfolding ascii
+returns c = then (c .before .before .before .before .before .before .before .put-number .ensures) (c .before .before .put-number2 .ensures)
+
+pub put-sealed-spec : {M : Type 1} → statement M
+put-sealed-spec =
+    tie.close
+    (tie.spec
+    slice-aggregate-put-number
+    cast-put-number
+    put-number-requires
+    slice-aggregate-put-number-2
+    put-number-requires-2
+    same-length
+    returns)
