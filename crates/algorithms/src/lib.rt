@@ -140,9 +140,10 @@ const TABLE: [Row; ROWS] = [
 fn row_of(kind: u8, number: u16) -> Row
     ensures { λ r. ⌜ r ≡ rowOf kind number ⌝ }
 {
+    let table = TABLE;
     let mut at = 0;
     while at < ROWS {
-        let row = TABLE[at];
+        let row = table[at];
         if row.is(kind, number) {
             return row;
         }

@@ -1,21 +1,25 @@
--- When an exchange has a ticket.
+-- When an exchange has a ticket, what a search for it finds, how many are pending, and what a call on a ticket gives.
 -- Assumes nothing.
-use mathlib.Core.Path.{_≡_, sym}
+use mathlib.Core.Path.{_≡_, sym, ap, _∙_}
 use mathlib.Core.Bool.{true, false, not}
 use mathlib.Core.List.{List, [], _∷_}
-use Prim.Native.Nat.{ℕ, _+_}
+use Prim.Native.Nat.{ℕ, _+_, _<_}
 use native.Mathlib.Nat.{zero-add}
 use native.Mathlib.Omega.{arith}
 use borrow.Author.Tests.{eq-eqb, ne-eqb}
 use lib.Dec.{eqb}
-use lib.ListN.{length, getD}
+use lib.ListN.{length, getD, List·getD-eq-default}
 use Rattle.wire.specs.Search.{firstPlace}
 use Rattle.wire.proofs.Booleans.{either, and-false, true-or-false}
+use Rattle.wire.proofs.Matches.{first-at, first-none}
 use Rattle.exchange.specs.declared.Exchange.{Exchange}
-use Rattle.exchange.specs.Exchange.{free, isFree, hasTicket}
-use Rattle.exchange.specs.Steps.{Step, after}
+use Rattle.exchange.specs.Exchange.{free, isFree, hasTicket, exchangeOf}
+use Rattle.exchange.specs.Steps.{Step, StepAnswer, after, answer}
 use Rattle.gateway.specs.declared.Gateway.{Gateway}
-use Rattle.gateway.specs.Gateway.{pendingIn, withExchange, stepped}
+use Rattle.gateway.specs.declared.change.Change.{Change}
+use Rattle.gateway.specs.Gateway.{tableSize, pendingIn, withExchange}
+use Rattle.gateway.specs.Change.{Fits, changed}
+use Rattle.gateway.specs.Calls.{onTicket, ofStep, gatewayDoes}
 
 -- another ticket
 pub other-ticket : (ticket : ℕ) (e : Exchange) → (e .ticket .0 ≡ ticket → ⊥) → hasTicket ticket e ≡ false
@@ -33,14 +37,34 @@ own-ticket ticket e n s =
     let pending : isFree e ≡ false = ne-eqb (e .ticket .0) 0 (λ z. n (omega arith)) in
     rw (pending, eq-eqb (e .ticket .0) ticket s)
 
+module _ (ticket : ℕ) (table : List Exchange) where
+  -- the place and the exchange of the first that has the ticket
+  pub found-at : (place : ℕ) → place < length table → ((j : ℕ) → j < place → hasTicket ticket (getD table j free) ≡ false)
+      → hasTicket ticket (getD table place free) ≡ true
+      → (place ≡ firstPlace (hasTicket ticket) table) × (getD table place free ≡ exchangeOf ticket table)
+  found-at place h none here =
+      let first : place ≡ firstPlace (hasTicket ticket) table = sym (first-at free (hasTicket ticket) table place h none here) in
+      (first, ap (λ (n : ℕ). getD table n free) first)
+
+  -- none has the ticket
+  pub found-none : length table ≡ tableSize → ((j : ℕ) → j < tableSize → hasTicket ticket (getD table j free) ≡ false)
+      → (tableSize ≡ firstPlace (hasTicket ticket) table) × (free ≡ exchangeOf ticket table)
+  found-none size none =
+      let past : firstPlace (hasTicket ticket) table ≡ length table = first-none free (hasTicket ticket) table (λ j h. none j (omega arith)) in
+      (sym (past ∙ size), sym (List·getD-eq-default table free (omega arith)))
+
 -- the pending exchanges of a table, one place and the rest
 pub pending-more : (e : Exchange) (es : List Exchange)
     → length (pendingIn (e ∷ es)) ≡ length (pendingIn (e ∷ [])) + length (pendingIn es)
 unfolding pendingIn
 pending-more e es = either (isFree e) (λ f. rw f (sym (zero-add (length (pendingIn es))))) (λ f. rw f (omega arith))
 
--- the gateway after a call on a ticket, by the place that was found and the exchange that was there
-pub stepped-by : (g : Gateway) (ticket : ℕ) (step : Step) (place : ℕ) (was left : Exchange)
-    → place ≡ firstPlace (hasTicket ticket) (g .table) → was ≡ getD (g .table) place free → left ≡ after step was
-    → withExchange place left g ≡ stepped ticket step g
-stepped-by g ticket step place was left p w l = rw (l, w, p)
+-- a call on a ticket, by what it found, what it left and told of that, and the change that it hands on
+pub stepped-by : (g : Gateway) (ticket : ℕ) (step : Step) (change : Change) {place : ℕ} {was left : Exchange} {told : StepAnswer}
+    → (place ≡ firstPlace (hasTicket ticket) (g .table)) × (was ≡ exchangeOf ticket (g .table))
+    → left ≡ after step was → told ≡ answer step was
+    → Fits change × (changed change g ≡ withExchange place left g)
+    → Fits change × ((changed change g ≡ gatewayDoes g (onTicket ticket step) .state)
+    × (ofStep told ≡ gatewayDoes g (onTicket ticket step) .answer))
+unfolding gatewayDoes
+stepped-by g ticket step change found l t c = (c .0, (c .1 ∙ rw (l, found .1, found .0), rw (t, found .1)))

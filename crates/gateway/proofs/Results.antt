@@ -5,7 +5,7 @@ use mathlib.Core.List.{List}
 use Prim.Native.Nat.{ℕ, zero, suc, _≤_, _<_}
 use native.Mathlib.Omega.{arith}
 use lib.Dec.{leb, ltb}
-use lib.ListN.{length, set, take, replicate, length-append, length-take}
+use lib.ListN.{length, getD, take, replicate, length-append, length-take}
 use borrow.Author.Tests.{leb-false, ltb-false}
 use Rattle.wire.specs.Refusals.{_when_otherwise_, refused, unlessRefused}
 use Rattle.wire.specs.Bytes.{withFront, overwritten}
@@ -21,19 +21,24 @@ use Rattle.request.specs.declared.Parsed.{Parsed}
 use Rattle.request.specs.Request.{requestRefusal, fieldsOf, noFields, parsed, infoOf}
 use Rattle.exchange.specs.Exchange.{free, isFree, asked}
 use Rattle.request.proofs.Requests.{accepted-request, info-of}
-use Rattle.keys.specs.declared.Keys.{Keys}
+use Rattle.keys.specs.declared.KeyState.{KeyState}
 use Rattle.keys.specs.Keys.{Key, placeOfKey, keyRefusal, retireRefusal}
-use Rattle.keys.specs.Stored.{keysOf, usedState, retiredState, changedState}
+use Rattle.keys.specs.Stored.{blankKey, keysOf, usedState, retiredState, changedState}
+use Rattle.keys.proofs.Arrays.{getD-any}
+use Rattle.keys.proofs.Stored.{unread, place-used}
 use Rattle.gateway.specs.declared.Gateway.{Gateway}
+use Rattle.gateway.specs.declared.change.Change.{Change}
 use Rattle.gateway.specs.declared.admission.Admission.{Admission}
 use Rattle.gateway.specs.declared.admission.AdmitRefusal.{AdmitRefusal}
 use Rattle.gateway.specs.declared.AdmitAnswer.{AdmitAnswer}
 use Rattle.gateway.specs.declared.RetireAnswer.{RetireAnswer}
 use Rattle.gateway.specs.Registry.{_orElse_, roomRefusal, admitRefusal, refusalOfAdmit, admission, admitAnswer, retireAnswer}
 use Rattle.gateway.specs.Gateway.{tableSize, isFull, freePlace, nextTicket, admitted, retiredGateway}
+use Rattle.gateway.specs.Change.{changed}
 use Rattle.gateway.proofs.Deciding.{none-of-both}
 use Rattle.gateway.specs.Calls.{admit, retire, ofAdmit, ofRetire, gatewayDoes, admitNumber, retireNumber}
 
+-- the answers of a refused retire and of a refused admit
 retire-refused : (n : ℕ) → (n ≡ 0 → ⊥) → RetireAnswer.Refused (refused n) ≡ retireAnswer n
 retire-refused zero h = absurd (h refl)
 retire-refused (suc n) h = refl
@@ -42,22 +47,44 @@ admit-refused : (n ticket : ℕ) (request : List ℕ) → (n ≡ 0 → ⊥) → 
 admit-refused zero ticket request h = absurd (h refl)
 admit-refused (suc n) ticket request h = refl
 
+-- a change with another key
+abbrev withKey : ℕ → KeyState → Change → Change
+withKey place key change =
+    record {
+      «last_ticket» = change .«last_ticket»;
+      «key_place» = place;
+      key = key;
+      place = change .place;
+      exchange = change .exchange;
+    }
+
 -- retire, by the place and the number that it finds
 module _ (g : Gateway) (id place number : ℕ) (p : place ≡ placeOfKey id (keysOf (g .keys)))
     (n : number ≡ retireRefusal (keysOf (g .keys)) place) where
+  -- the number is retire's
   is-number : number ≡ retireNumber id g
   is-number = n ∙ ap (retireRefusal (keysOf (g .keys))) p
 
-  pub not-retired : (r : Refusal) → r ≡ refused number → (number ≡ 0 → ⊥)
-      → (g ≡ gatewayDoes g (retire id) .state) × (ofRetire (RetireAnswer.Refused r) ≡ gatewayDoes g (retire id) .answer)
-  unfolding gatewayDoes
-  not-retired r e h = rw (← is-number, e) (unless-refused number (retiredGateway id g) g h, ap ofRetire (retire-refused number h))
+  -- over a change that changes nothing
+  module _ (change : Change) (same : changed change g ≡ g) where
+    -- a refused retire
+    pub not-retired : (r : Refusal) → r ≡ refused number → (number ≡ 0 → ⊥)
+        → (changed change g ≡ gatewayDoes g (retire id) .state) × (ofRetire (RetireAnswer.Refused r) ≡ gatewayDoes g (retire id) .answer)
+    unfolding gatewayDoes
+    not-retired r e h =
+        rw (← is-number, e) (same ∙ unless-refused number (retiredGateway id g) g h, ap ofRetire (retire-refused number h))
 
-  pub is-retired : (keys : Keys) → keys ≡ changedState retiredState place (g .keys) → number ≡ 0
-      → (record { «last_ticket» = g .«last_ticket»; cap = g .cap; keys = keys; table = g .table } ≡ gatewayDoes g (retire id) .state)
-      × (ofRetire RetireAnswer.Retired ≡ gatewayDoes g (retire id) .answer)
-  unfolding gatewayDoes
-  is-retired keys k z = rw (← is-number, z, k, p) (refl, refl)
+    -- an accepted one, with the key that was read at the place, retired
+    pub is-retired : number ≡ 0 → length (g .keys .list) ≡ 16 → place < 16
+        → (key : KeyState) → key ≡ retiredState (getD (g .keys .list) place unread)
+        → (changed (withKey place key change) g ≡ gatewayDoes g (retire id) .state)
+        × (ofRetire RetireAnswer.Retired ≡ gatewayDoes g (retire id) .answer)
+    unfolding gatewayDoes
+    is-retired none whole inside key k =
+        let there = getD-any (g .keys .list) place unread blankKey (omega arith) in
+        let keys = changedState retiredState place (g .keys) in
+        rw (← is-number, none, k, there, ← p)
+        (ap (λ (h : Gateway). record { «last_ticket» = h .«last_ticket»; cap = h .cap; keys = keys; table = h .table }) same, refl)
 
 -- the fields of a request that is refused do not matter
 fields-only-accepted : (q cap : ℕ) (keys : List Key) (f n : Request) (rest : ℕ)
@@ -74,74 +101,90 @@ info-written request info h l =
     let size : length (infoOf request) ≡ infoLength = length-append requestLabel (take headLength request) ∙ rw (length-take headLength request) (omega arith) in
     rw (info-of request h) (front-first (infoOf request) info (omega (arith, size)))
 
--- what admit's code finds: the parsed request, the key's place and its refusal, the place in the table, and the number
+-- what admit's code finds: the parsed request, the key's place and its refusal, the place in the table, and the number; and the
+-- lengths of the gateway's arrays
 pub record Decided (g : Gateway) (request info : List ℕ) : Type 0 where
   pub read : Parsed
-  pub key : ℕ
+  pub keyPlace : ℕ
   pub byKey : ℕ
   pub place : ℕ
   pub number : ℕ
   pub isRead : read ≡ parsed request
-  pub isKey : key ≡ placeOfKey (read .request .«key_id» .0) (keysOf (g .keys))
-  pub isByKey : byKey ≡ keyRefusal (g .cap) (keysOf (g .keys)) key (read .request)
+  pub isKeyPlace : keyPlace ≡ placeOfKey (read .request .«key_id» .0) (keysOf (g .keys))
+  pub isByKey : byKey ≡ keyRefusal (g .cap) (keysOf (g .keys)) keyPlace (read .request)
   pub isPlace : place ≡ freePlace (g .table)
   pub size : length (g .table) ≡ tableSize
+  pub whole : length (g .keys .list) ≡ 16
   pub isNumber : number ≡ (read .refusal orElse byKey orElse roomRefusal (leb tableSize place) (length info))
 
-module _ (g : Gateway) (request info : List ℕ) (d : Decided g request info) where
+module _ {g : Gateway} {request info : List ℕ} (d : Decided g request info) where
+  -- the table is full where no place was found
   full-by-place : isFull (g .table) ≡ leb tableSize (d .place)
   unfolding freePlace
   full-by-place = rw (d .isPlace, ← d .size) (any-by-place free isFree (g .table))
 
-  pub admit-number : d .number ≡ admitNumber request info g
+  -- the number is admit's
+  admit-number : d .number ≡ admitNumber request info g
   unfolding admitRefusal
   admit-number =
-      d .isNumber ∙ rw (d .isByKey, d .isKey, d .isRead, full-by-place)
+      d .isNumber ∙ rw (d .isByKey, d .isKeyPlace, d .isRead, full-by-place)
       (fields-only-accepted (requestRefusal request) (g .cap) (keysOf (g .keys)) (fieldsOf request) noFields _)
 
-  pub not-admitted : (r : AdmitRefusal) → r ≡ refusalOfAdmit (d .number) → (d .number ≡ 0 → ⊥)
-      → (g ≡ gatewayDoes g (admit request info) .state)
+  -- a refused admit, over a change that changes nothing
+  pub not-admitted : (change : Change) → changed change g ≡ g → (r : AdmitRefusal) → r ≡ refusalOfAdmit (d .number) → (d .number ≡ 0 → ⊥)
+      → (changed change g ≡ gatewayDoes g (admit request info) .state)
       × ((ofAdmit (AdmitAnswer.Refused r) ≡ gatewayDoes g (admit request info) .answer)
       × (info ≡ gatewayDoes g (admit request info) .buffer))
   unfolding gatewayDoes
-  not-admitted r e h =
+  not-admitted change same r e h =
       rw (← admit-number, e) (
-        unless-refused (d .number) (admitted request g) g h,
+        same ∙ unless-refused (d .number) (admitted request g) g h,
         (ap ofAdmit (admit-refused (d .number) (nextTicket g) request h), unless-refused (d .number) _ info h),
       )
 
   module _ (none : d .number ≡ 0) where
-    parts : (d .read .refusal ≡ 0) × (roomRefusal (leb tableSize (d .place)) (length info) ≡ 0)
+    -- neither the request nor the key nor the room refuses
+    parts : (d .read .refusal ≡ 0) × (d .byKey ≡ 0) × (roomRefusal (leb tableSize (d .place)) (length info) ≡ 0)
     parts =
         let a = none-of-both (d .read .refusal) _ (sym (d .isNumber) ∙ none) in
         let b = none-of-both (d .byKey) _ (a .1) in
-        (a .0, b .1)
+        (a .0, b .0, b .1)
+
+    -- the request is good
+    request-good : requestRefusal request ≡ 0
+    request-good = sym (ap (λ (p : Parsed). p .refusal) (d .isRead)) ∙ parts .0
+
+    -- so there are a key, a place, room for info, and the request's head
+    pub key-below : d .keyPlace < 16
+    key-below = place-used (g .keys) (d .whole) (g .cap) (d .keyPlace) (d .read .request) (sym (d .isByKey) ∙ parts .1)
 
     pub place-below : d .place < tableSize
     place-below =
         leb-false tableSize (d .place)
-        (not-refused 8 (leb tableSize (d .place)) (14 when ltb (length info) infoLength otherwise 0) (parts .1) .0)
+        (not-refused 8 (leb tableSize (d .place)) (14 when ltb (length info) infoLength otherwise 0) (parts .2) .0)
 
     pub info-fits : infoLength ≤ length info
     info-fits =
         ltb-false (length info) infoLength
-        (not-refused 13 (ltb (length info) infoLength) 0 (not-refused 8 (leb tableSize (d .place)) (14 when ltb (length info) infoLength otherwise 0) (parts .1) .1) .0)
-
-    request-good : requestRefusal request ≡ 0
-    request-good = sym (ap (λ (p : Parsed). p .refusal) (d .isRead)) ∙ parts .0
+        (not-refused 13 (ltb (length info) infoLength) 0 (not-refused 8 (leb tableSize (d .place)) (14 when ltb (length info) infoLength otherwise 0) (parts .2) .1) .0)
 
     pub head-there : headLength ≤ length request
     head-there = omega (arith, accepted-request request request-good .1 .0)
 
+    -- what was read are the request's fields
     fields-read : d .read .request ≡ fieldsOf request
     fields-read = ap (λ (p : Parsed). p .request) (d .isRead) ∙ rw request-good
 
-    pub is-admitted : (ticket : Ticket) (keys : Keys) (e : Exchange) (m : Admission) (buffer : List ℕ)
-        → ticket ≡ record { 0 = nextTicket g } → keys ≡ changedState usedState (d .key) (g .keys) → e ≡ asked (ticket .0) (d .read .request)
-        → m ≡ admission (ticket .0) (d .read .request) (length request) → buffer ≡ withFront (infoOf request) info
-        → (record { «last_ticket» = ticket; cap = g .cap; keys = keys; table = set (g .table) (d .place) e } ≡ gatewayDoes g (admit request info) .state)
+    -- an accepted admit
+    pub is-admitted : (ticket : Ticket) (key : KeyState) (e : Exchange) (m : Admission) (buffer : List ℕ)
+        → ticket ≡ record { 0 = nextTicket g } → key ≡ usedState (getD (g .keys .list) (d .keyPlace) unread)
+        → e ≡ asked (ticket .0) (d .read .request) → m ≡ admission (ticket .0) (d .read .request) (length request)
+        → buffer ≡ withFront (infoOf request) info
+        → (changed (record { «last_ticket» = ticket; «key_place» = d .keyPlace; key = key; place = d .place; exchange = e }) g
+        ≡ gatewayDoes g (admit request info) .state)
         × ((ofAdmit (AdmitAnswer.Admitted m) ≡ gatewayDoes g (admit request info) .answer)
         × (buffer ≡ gatewayDoes g (admit request info) .buffer))
     unfolding gatewayDoes
-    is-admitted ticket keys e m buffer t k x a b =
-        rw (← admit-number, none, k, x, a, b, t, d .isKey, d .isPlace, fields-read) (refl, (refl, refl))
+    is-admitted ticket key e m buffer t k x a b =
+        let there = getD-any (g .keys .list) (d .keyPlace) unread blankKey (omega (arith, key-below)) in
+        rw (← admit-number, none, k, there, x, a, b, t, d .isKeyPlace, d .isPlace, fields-read) (refl, (refl, refl))

@@ -2,18 +2,21 @@
 // refusal hands it back as it was. Every entry has an answer for every gateway and every argument.
 ghost use mathlib.Core.Path.{_≡_};
 ghost use mathlib.Core.List.{[]};
-ghost use lib.ListN.{length};
 ghost use Rattle.exchange.specs.Steps.{openResult, respond, abandon, ofOpen, ofRespond, ofAbandon};
 ghost use Rattle.keys.specs.Stored.{storedKeys};
 ghost use Rattle.gateway.specs.declared.SetupAnswer.{SetupAnswer};
 ghost use Rattle.gateway.specs.Registry.{setup, setupAnswer};
-ghost use Rattle.gateway.specs.Gateway.{tableSize, emptyGateway, freshGateway, withExchange};
+ghost use Rattle.gateway.specs.Gateway.{emptyGateway, freshGateway};
+ghost use Rattle.gateway.specs.Change.{changed, Fits};
 ghost use Rattle.gateway.specs.Calls.{admit, retire, onTicket, reporting, ofAdmit, ofRetire, ofStep, ofReport, gatewayDoes};
 use crate::admission::Admission;
 use crate::admission::AdmitRefusal;
 use crate::admission::next_ticket;
+use crate::change::Change;
+use crate::change::exchange_at;
+use crate::change::nothing;
+use crate::change::put;
 use crate::table::TABLE_SIZE;
-use crate::table::at;
 use crate::table::count_pending;
 use crate::table::find;
 use crate::table::free_place;
@@ -31,6 +34,7 @@ use wire::bytes::overwrite;
 use wire::refusal::Refusal;
 
 pub mod admission;
+pub mod change;
 pub mod table;
 
 // The uses of a key that setup may allow are 1 up to this number.
@@ -67,6 +71,32 @@ pub struct Report {
     pub pending: usize,
     pub key_count: usize,
     pub keys: [KeyReport; MOST_CONFIGURATIONS],
+}
+
+// What a call changes, with the answer.
+pub struct AdmitChange {
+    pub change: Change,
+    pub answer: AdmitAnswer,
+}
+
+pub struct OpenChange {
+    pub change: Change,
+    pub answer: OpenAnswer,
+}
+
+pub struct RespondChange {
+    pub change: Change,
+    pub answer: RespondAnswer,
+}
+
+pub struct AbandonChange {
+    pub change: Change,
+    pub answer: AbandonAnswer,
+}
+
+pub struct RetireChange {
+    pub change: Change,
+    pub answer: RetireAnswer,
 }
 
 // The gateway after a call, with the answer.
@@ -132,18 +162,34 @@ impl Gateway {
         ensures answer { λ r. ⌜ ofAdmit (r .answer) ≡ gatewayDoes self (admit (now (request .entry)) (now (info .entry))) .answer ⌝ }
         ensures buffer { λ r. ⌜ now (info .exit) ≡ gatewayDoes self (admit (now (request .entry)) (now (info .entry))) .buffer ⌝ }
     {
+        let done = self.admit_change(request, info);
+        let change = done.change;
+        let answer = done.answer;
+        AfterAdmit {
+            gateway: put(self, change),
+            answer,
+        }
+    }
+
+    // What admit changes, and its answer.
+    pub fn admit_change(self, request: &[u8], info: &mut [u8]) -> AdmitChange
+        ensures fits { λ r. ⌜ Fits (r .change) ⌝ }
+        ensures gateway { λ r. ⌜ changed (r .change) self ≡ gatewayDoes self (admit (now (request .entry)) (now (info .entry))) .state ⌝ }
+        ensures answer { λ r. ⌜ ofAdmit (r .answer) ≡ gatewayDoes self (admit (now (request .entry)) (now (info .entry))) .answer ⌝ }
+        ensures buffer { λ r. ⌜ now (info .exit) ≡ gatewayDoes self (admit (now (request .entry)) (now (info .entry))) .buffer ⌝ }
+    {
         let parsed = request::read(request);
         let fields = parsed.request;
         let keys = self.keys;
         let key_id = fields.key_id;
-        let key = keys.find(key_id);
+        let key_place = keys.find(key_id);
         let table = self.table;
         let place = free_place(table);
-        let by_key = keys.refusal(key, self.cap, fields);
+        let by_key = keys.refusal(key_place, self.cap, fields);
         let number = admission::refusal(parsed.refusal, by_key, place, info.len());
         if number != 0 {
-            return AfterAdmit {
-                gateway: self,
+            return AdmitChange {
+                change: nothing(self),
                 answer: AdmitAnswer::Refused(AdmitRefusal::of(number)),
             };
         }
@@ -151,12 +197,15 @@ impl Gateway {
         overwrite(info, 0, &front);
         let last = self.last_ticket;
         let ticket = next_ticket(last);
-        let mut next = self;
-        next.last_ticket = ticket;
-        next.keys = keys.used(key);
-        next.table[place] = Exchange::asked(ticket, fields);
-        AfterAdmit {
-            gateway: next,
+        let key = keys.list[key_place];
+        AdmitChange {
+            change: Change {
+                last_ticket: ticket,
+                key_place,
+                key: key.used(),
+                place,
+                exchange: Exchange::asked(ticket, fields),
+            },
             answer: AdmitAnswer::Admitted(Admission::of(ticket, fields, request.len())),
         }
     }
@@ -166,14 +215,29 @@ impl Gateway {
         ensures gateway { λ r. ⌜ r .gateway ≡ gatewayDoes self (onTicket (ticket .0) (openResult success n)) .state ⌝ }
         ensures answer { λ r. ⌜ ofStep (ofOpen (r .answer)) ≡ gatewayDoes self (onTicket (ticket .0) (openResult success n)) .answer ⌝ }
     {
+        let done = self.open_change(ticket, success, n);
+        let change = done.change;
+        let answer = done.answer;
+        AfterOpen {
+            gateway: put(self, change),
+            answer,
+        }
+    }
+
+    // What open result changes, and its answer.
+    pub fn open_change(self, ticket: Ticket, success: bool, n: u64) -> OpenChange
+        ensures fits { λ r. ⌜ Fits (r .change) ⌝ }
+        ensures gateway { λ r. ⌜ changed (r .change) self ≡ gatewayDoes self (onTicket (ticket .0) (openResult success n)) .state ⌝ }
+        ensures answer { λ r. ⌜ ofStep (ofOpen (r .answer)) ≡ gatewayDoes self (onTicket (ticket .0) (openResult success n)) .answer ⌝ }
+    {
         let table = self.table;
-        let place = find(table, ticket);
-        let pending = at(table, place);
+        let found = find(table, ticket);
+        let pending = found.exchange;
         let moved = pending.open_result(success, n);
         let exchange = moved.exchange;
         let answer = moved.answer;
-        AfterOpen {
-            gateway: with_exchange(self, place, exchange),
+        OpenChange {
+            change: exchange_at(self, found.place, exchange),
             answer,
         }
     }
@@ -194,14 +258,40 @@ impl Gateway {
         ensures buffer { λ r. ⌜ now (salt .exit) ≡ gatewayDoes self
             (onTicket (ticket .0) (respond (now (enc .entry)) (now (nonce .entry)) plain (now (salt .entry)))) .buffer ⌝ }
     {
+        let done = self.respond_change(ticket, enc, nonce, plain, salt);
+        let change = done.change;
+        let answer = done.answer;
+        AfterRespond {
+            gateway: put(self, change),
+            answer,
+        }
+    }
+
+    // What respond changes, and its answer.
+    pub fn respond_change(
+        self,
+        ticket: Ticket,
+        enc: &[u8],
+        nonce: &[u8],
+        plain: u64,
+        salt: &mut [u8],
+    ) -> RespondChange
+        ensures fits { λ r. ⌜ Fits (r .change) ⌝ }
+        ensures gateway { λ r. ⌜ changed (r .change) self ≡ gatewayDoes self
+            (onTicket (ticket .0) (respond (now (enc .entry)) (now (nonce .entry)) plain (now (salt .entry)))) .state ⌝ }
+        ensures answer { λ r. ⌜ ofStep (ofRespond (r .answer)) ≡ gatewayDoes self
+            (onTicket (ticket .0) (respond (now (enc .entry)) (now (nonce .entry)) plain (now (salt .entry)))) .answer ⌝ }
+        ensures buffer { λ r. ⌜ now (salt .exit) ≡ gatewayDoes self
+            (onTicket (ticket .0) (respond (now (enc .entry)) (now (nonce .entry)) plain (now (salt .entry)))) .buffer ⌝ }
+    {
         let table = self.table;
-        let place = find(table, ticket);
-        let pending = at(table, place);
+        let found = find(table, ticket);
+        let pending = found.exchange;
         let moved = pending.respond(enc, nonce, plain, salt);
         let exchange = moved.exchange;
         let answer = moved.answer;
-        AfterRespond {
-            gateway: with_exchange(self, place, exchange),
+        RespondChange {
+            change: exchange_at(self, found.place, exchange),
             answer,
         }
     }
@@ -211,14 +301,29 @@ impl Gateway {
         ensures gateway { λ r. ⌜ r .gateway ≡ gatewayDoes self (onTicket (ticket .0) abandon) .state ⌝ }
         ensures answer { λ r. ⌜ ofStep (ofAbandon (r .answer)) ≡ gatewayDoes self (onTicket (ticket .0) abandon) .answer ⌝ }
     {
+        let done = self.abandon_change(ticket);
+        let change = done.change;
+        let answer = done.answer;
+        AfterAbandon {
+            gateway: put(self, change),
+            answer,
+        }
+    }
+
+    // What abandon changes, and its answer.
+    pub fn abandon_change(self, ticket: Ticket) -> AbandonChange
+        ensures fits { λ r. ⌜ Fits (r .change) ⌝ }
+        ensures gateway { λ r. ⌜ changed (r .change) self ≡ gatewayDoes self (onTicket (ticket .0) abandon) .state ⌝ }
+        ensures answer { λ r. ⌜ ofStep (ofAbandon (r .answer)) ≡ gatewayDoes self (onTicket (ticket .0) abandon) .answer ⌝ }
+    {
         let table = self.table;
-        let place = find(table, ticket);
-        let pending = at(table, place);
+        let found = find(table, ticket);
+        let pending = found.exchange;
         let moved = pending.abandon();
         let exchange = moved.exchange;
         let answer = moved.answer;
-        AfterAbandon {
-            gateway: with_exchange(self, place, exchange),
+        AbandonChange {
+            change: exchange_at(self, found.place, exchange),
             answer,
         }
     }
@@ -228,19 +333,36 @@ impl Gateway {
         ensures gateway { λ r. ⌜ r .gateway ≡ gatewayDoes self (retire (id .0)) .state ⌝ }
         ensures answer { λ r. ⌜ ofRetire (r .answer) ≡ gatewayDoes self (retire (id .0)) .answer ⌝ }
     {
+        let done = self.retire_change(id);
+        let change = done.change;
+        let answer = done.answer;
+        AfterRetire {
+            gateway: put(self, change),
+            answer,
+        }
+    }
+
+    // What retire changes, and its answer.
+    pub fn retire_change(self, id: KeyId) -> RetireChange
+        ensures fits { λ r. ⌜ Fits (r .change) ⌝ }
+        ensures gateway { λ r. ⌜ changed (r .change) self ≡ gatewayDoes self (retire (id .0)) .state ⌝ }
+        ensures answer { λ r. ⌜ ofRetire (r .answer) ≡ gatewayDoes self (retire (id .0)) .answer ⌝ }
+    {
         let keys = self.keys;
-        let place = keys.find(id);
-        let number = keys.retire_refusal(place);
+        let key_place = keys.find(id);
+        let number = keys.retire_refusal(key_place);
         if number != 0 {
-            return AfterRetire {
-                gateway: self,
+            return RetireChange {
+                change: nothing(self),
                 answer: RetireAnswer::Refused(Refusal::of(number)),
             };
         }
-        let mut next = self;
-        next.keys = keys.retired(place);
-        AfterRetire {
-            gateway: next,
+        let key = keys.list[key_place];
+        let mut change = nothing(self);
+        change.key_place = key_place;
+        change.key = key.retired();
+        RetireChange {
+            change,
             answer: RetireAnswer::Retired,
         }
     }
@@ -284,17 +406,4 @@ fn refused_setup(refusal: Refusal) -> AfterSetup
         gateway: empty(1, Keys::none()),
         answer: SetupAnswer::Refused(refusal),
     }
-}
-
-// The gateway with an exchange at a place of the table; as it was where there is no such place. It is told that the table has its
-// size, which every array has.
-fn with_exchange(gateway: Gateway, place: usize, exchange: Exchange) -> Gateway
-    requires { ⌜ length (gateway .table) ≡ tableSize ⌝ }
-    ensures { λ r. ⌜ r ≡ withExchange place exchange gateway ⌝ }
-{
-    let mut next = gateway;
-    if place < TABLE_SIZE {
-        next.table[place] = exchange;
-    }
-    next
 }

@@ -2,9 +2,9 @@
 ghost use mathlib.Core.Path.{_≡_};
 ghost use mathlib.Core.List.{[], _∷_};
 ghost use Prim.Native.Nat.{_≤_};
-ghost use lib.ListN.{length, getD};
+ghost use lib.ListN.{length};
 ghost use Rattle.wire.specs.Search.{firstPlace};
-ghost use Rattle.exchange.specs.Exchange.{free, hasTicket};
+ghost use Rattle.exchange.specs.Exchange.{free, hasTicket, exchangeOf};
 ghost use Rattle.gateway.specs.Gateway.{tableSize, freePlace, pendingIn};
 use exchange::Exchange;
 use exchange::Ticket;
@@ -29,22 +29,40 @@ pub(crate) fn free_place(table: [Exchange; TABLE_SIZE]) -> usize
     at
 }
 
-// The place of the pending exchange with a ticket; the table's size where none has it.
-pub(crate) fn find(table: [Exchange; TABLE_SIZE], ticket: Ticket) -> usize
-    ensures place { λ r. ⌜ r ≡ firstPlace (hasTicket (ticket .0)) table ⌝ }
-    ensures size { λ r. ⌜ length table ≡ tableSize ⌝ }
+// A place of the table and the exchange there.
+pub(crate) struct Found {
+    pub place: usize,
+    pub exchange: Exchange,
+}
+
+// The pending exchange with a ticket and its place; a free one and the table's size where none has it.
+pub(crate) fn find(table: [Exchange; TABLE_SIZE], ticket: Ticket) -> Found
+    ensures place { λ r. ⌜ r .place ≡ firstPlace (hasTicket (ticket .0)) table ⌝ }
+    ensures exchange { λ r. ⌜ r .exchange ≡ exchangeOf (ticket .0) table ⌝ }
 {
     if ticket.0 == 0 {
-        return TABLE_SIZE;
+        return nothing_found();
     }
     let mut at = 0;
     while at < TABLE_SIZE {
         if table[at].ticket.0 == ticket.0 {
-            return at;
+            return Found {
+                place: at,
+                exchange: table[at],
+            };
         }
         at += 1;
     }
-    at
+    nothing_found()
+}
+
+fn nothing_found() -> Found
+    ensures { λ r. ⌜ r ≡ record { place = tableSize; exchange = free } ⌝ }
+{
+    Found {
+        place: TABLE_SIZE,
+        exchange: Exchange::free(),
+    }
 }
 
 // The number of pending exchanges.
@@ -66,14 +84,4 @@ fn number(exchange: Exchange) -> usize
     ensures one { λ r. ⌜ r ≤ 1 ⌝ }
 {
     if exchange.is_free() { 0 } else { 1 }
-}
-
-// The exchange at a place; a free one where there is no such place.
-pub(crate) fn at(table: [Exchange; TABLE_SIZE], place: usize) -> Exchange
-    ensures { λ r. ⌜ r ≡ getD table place free ⌝ }
-{
-    if place < TABLE_SIZE {
-        return table[place];
-    }
-    Exchange::free()
 }

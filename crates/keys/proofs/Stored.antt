@@ -1,29 +1,30 @@
--- What the stored keys stand for: how many there are, the key at a place and what it decides, one key changed, and the reports.
+-- What the stored keys stand for: how many there are, the key at a place and what it decides, and the reports.
 -- Assumes nothing.
 use mathlib.Core.Path.{_≡_, sym, ap, _∙_}
 use mathlib.Core.Bool.{not}
 use mathlib.Core.List.{List, [], _∷_, _++_, map}
 use Prim.Native.Nat.{ℕ, suc, _+_, _≤_, _<_, min}
 use native.Mathlib.Omega.{arith}
-use borrow.Author.Tests.{ltb-true, ltb-false, lt-ltb, le-ltb, le-leb, lt-leb}
+use borrow.Author.Tests.{leb-false, ltb-true, ltb-false, lt-ltb, le-ltb, le-leb, lt-leb}
 use lib.Dec.{eqb, leb, ltb}
 use mir.Val.{Val}
 use denote.Laws.{Is}
 use lib.ListN.{length, getD, take, set, length-map}
-use lib.Seq.{set-out, take-suc}
+use lib.Seq.{take-suc}
 use Rattle.wire.specs.Refusals.{_when_otherwise_}
 use Rattle.wire.proofs.Booleans.{either}
+use Rattle.wire.proofs.Numbers.{not-refused}
 use Rattle.request.specs.declared.Request.{Request}
 use Rattle.keys.specs.declared.KeyState.{KeyState}
 use Rattle.keys.specs.declared.Keys.{Keys}
 use Rattle.keys.specs.declared.KeyReport.{KeyReport}
 use Rattle.keylist.specs.Layout.{mostConfigurations}
-use Rattle.keys.specs.Keys.{Key, keyAt, noKey, offers, keyRefusal, reportOf}
-use Rattle.keys.specs.Stored.{padded, keyOf, keysOf, blankKey, changedState, blankReport, storedReports}
+use Rattle.keys.specs.Keys.{Key, keyAt, noKey, offers, keyRefusal, retireRefusal, reportOf}
+use Rattle.keys.specs.Stored.{padded, keyOf, keysOf, blankReport, storedReports}
 use Rattle.keylist.proofs.Pair
 use Rattle.keys.proofs.KeyState
 use Rattle.keys.proofs.Keys
-use Rattle.keys.proofs.Arrays.{getD-any, set-padded, map-append, length-stored, stored-at, take-min}
+use Rattle.keys.proofs.Arrays.{set-padded, map-append, length-stored, stored-at, take-min}
 
 -- what the code reads out of range
 abbrev pub unread : KeyState
@@ -49,8 +50,9 @@ keyTests cap key request =
 abbrev pub reportsOf : ℕ → List KeyState → List KeyReport
 reportsOf count list = storedReports (map keyOf (take count list))
 
-abbrev stored : List KeyState → ℕ → Keys
-stored list count = record { list = list; count = count }
+-- where a chain that asks first for the key gives no refusal, there is a key
+inside : (number place rest : ℕ) → (4 when leb number place otherwise rest) ≡ 0 → place < number
+inside number place rest e = leb-false number place (not-refused 3 (leb number place) rest e .0)
 
 module _ (keys : Keys) (whole : length (keys .list) ≡ 16) where
   pub length-keys : length (keysOf keys) ≡ min (keys .count) 16
@@ -83,19 +85,14 @@ module _ (keys : Keys) (whole : length (keys .list) ≡ 16) where
   unfolding keyRefusal
   refusal-there cap place request h = rw (lt-leb (length (keysOf keys)) place h, key-at place h)
 
-  module _ (change : KeyState → KeyState) (place : ℕ) where
-    -- the keys with one changed, as the code makes them
-    pub changed-in : place < 16
-        → stored (set (keys .list) place (change (getD (keys .list) place unread))) (keys .count) ≡ changedState change place keys
-    changed-in h =
-        ap (λ (k : KeyState). stored (set (keys .list) place (change k)) (keys .count))
-        (getD-any (keys .list) place unread blankKey (omega (arith, whole)))
+  -- where a use of a key, or its retirement, is not refused, its place is one of the array's
+  pub place-used : (cap place : ℕ) (request : Request) → keyRefusal cap (keysOf keys) place request ≡ 0 → place < 16
+  unfolding keyRefusal
+  place-used cap place request e = omega (arith, length-keys, inside (length (keysOf keys)) place _ e)
 
-    -- where there is no such place nothing changes
-    pub changed-out : 16 ≤ place → keys ≡ changedState change place keys
-    changed-out h =
-        sym (ap (λ (l : List KeyState). stored l (keys .count))
-        (set-out (keys .list) place (change (getD (keys .list) place blankKey)) (omega (arith, whole))))
+  pub place-retired : (place : ℕ) → retireRefusal (keysOf keys) place ≡ 0 → place < 16
+  unfolding retireRefusal
+  place-retired place e = omega (arith, length-keys, inside (length (keysOf keys)) place _ e)
 
   -- one report more
   pub reports-more : (at : ℕ) → at < 16

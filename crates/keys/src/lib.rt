@@ -8,7 +8,7 @@ ghost use lib.ListN.{length};
 ghost use Rattle.keylist.specs.Layout.{parse, layoutHolds, configurationAt, pairsAt};
 ghost use Rattle.keylist.specs.Answers.{IsGood};
 ghost use Rattle.keys.specs.Keys.{placeOfKey, isPair, offers, keyRefusal, retireRefusal, reportOf};
-ghost use Rattle.keys.specs.Stored.{mostPairs, padded, noPair, blankKey, keyOf, keysOf, storedKey, storedKeys, keysFrom, keysRead, oneMore, usedState, retiredState, changedState, storedReports};
+ghost use Rattle.keys.specs.Stored.{mostPairs, padded, noPair, blankKey, keyOf, keysOf, storedKey, storedKeys, keysFrom, keysRead, oneMore, usedState, retiredState, storedReports};
 use algorithms::Aead;
 use algorithms::Kdf;
 use algorithms::is_known_pair;
@@ -51,6 +51,7 @@ pub struct KeysRead {
 }
 
 // A key, as report shows it.
+#[repr(C)]
 pub struct KeyReport {
     pub id: KeyId,
     pub count: u32,
@@ -92,6 +93,24 @@ impl KeyState {
             at += 1;
         }
         false
+    }
+
+    // The key after one use more.
+    pub fn used(self) -> Self
+        ensures { λ r. ⌜ r ≡ usedState self ⌝ }
+    {
+        let mut next = self;
+        next.count = one_more(self.count);
+        next
+    }
+
+    // The key, retired.
+    pub fn retired(self) -> Self
+        ensures { λ r. ⌜ r ≡ retiredState self ⌝ }
+    {
+        let mut next = self;
+        next.retired = 1;
+        next
     }
 
     fn report(self) -> KeyReport
@@ -220,32 +239,6 @@ impl Keys {
             return Refusal::KEY_RETIRED;
         }
         0
-    }
-
-    // The keys after one use more of the key at a place.
-    pub fn used(self, place: usize) -> Self
-        ensures { λ r. ⌜ r ≡ changedState usedState place self ⌝ }
-    {
-        let mut next = self;
-        if place < MOST_CONFIGURATIONS {
-            let mut key = next.list[place];
-            key.count = one_more(key.count);
-            next.list[place] = key;
-        }
-        next
-    }
-
-    // The keys with the one at a place retired.
-    pub fn retired(self, place: usize) -> Self
-        ensures { λ r. ⌜ r ≡ changedState retiredState place self ⌝ }
-    {
-        let mut next = self;
-        if place < MOST_CONFIGURATIONS {
-            let mut key = next.list[place];
-            key.retired = 1;
-            next.list[place] = key;
-        }
-        next
     }
 
     // The keys as report shows them.

@@ -14,11 +14,11 @@ use Rattle.algorithms.proofs.row_of.Statement.{statement}
 use Rattle.algorithms.proofs.row_of.Tie as tie
 
 abbrev Inv-loop : tie.InvT-loop
-Inv-loop kind number at₀ at =
+Inv-loop kind number rows at₀ at =
     (at ≤ 11) × ((j : ℕ) → j < at → isRow kind number (getD table j noRow) ≡ false)
 
 abbrev μ-loop : tie.MeasureT-loop
-μ-loop kind number at₀ at = 11 - at
+μ-loop kind number rows at₀ at = 11 - at
 
 loop-holds : tie.Need-loop-holds Inv-loop μ-loop
 loop-holds c =

@@ -1,6 +1,6 @@
 -- `gateway::table::find` meets its contract. The loop's invariant: no place before has the ticket.
 -- Assumes nothing.
-use mathlib.Core.Path.{_≡_, sym, _∙_}
+use mathlib.Core.Path.{_≡_}
 use Prim.Native.Nat.{ℕ, _-_, _≤_, _<_}
 use native.Mathlib.Omega.{arith}
 use borrow.Author.Needs.{needs}
@@ -8,9 +8,8 @@ use lib.ListN.{length, getD}
 use mathlib.Core.Bool.{false}
 use Rattle.exchange.specs.Exchange.{free, hasTicket}
 use Rattle.gateway.specs.Gateway.{tableSize}
-use Rattle.wire.proofs.Matches.{first-at, first-none}
 use borrow.Author.Count.{below-none, below-more}
-use Rattle.gateway.proofs.Places.{no-ticket, other-ticket, own-ticket}
+use Rattle.gateway.proofs.Places.{no-ticket, other-ticket, own-ticket, found-at, found-none}
 use Rattle.gateway.proofs.table.find.Statement.{statement}
 use Rattle.gateway.proofs.table.find.Tie as tie
 
@@ -21,11 +20,16 @@ Inv-loop ticket table at₀ at =
 abbrev μ-loop : tie.MeasureT-loop
 μ-loop ticket table at₀ at = tableSize - at
 
+nothing-found-requires : tie.Need-nothing-found-requires Inv-loop μ-loop
+nothing-found-requires c κs = search needs
+
 returns : tie.Need-returns Inv-loop μ-loop
 returns c =
-    let a = c .before .before .args in
+    let zero = c .before in
+    let a = zero .before .before .args in
     let size : length (a .t1) ≡ tableSize = search needs in
-    (sym (first-none free (hasTicket (a .ticket .0)) (a .t1) (λ j h. no-ticket (a .ticket .0) (getD (a .t1) j free) (c .if1 .taken)) ∙ size), size)
+    rw (c .nothing-found .ensures)
+    (found-none (a .ticket .0) (a .t1) size (λ j h. no-ticket (a .ticket .0) (getD (a .t1) j free) (zero .if1 .taken)))
 
 loop-holds : tie.Need-loop-holds Inv-loop μ-loop
 loop-holds c = (omega arith, (c .if1 .left, below-none (λ (j : ℕ). hasTicket (c .before .before .args .ticket .0) (getD (c .before .before .args .t1) j free) ≡ false)))
@@ -36,12 +40,21 @@ mul-if2 c = search needs
 element-copy-out-if2 : tie.Need-element-copy-out-if2 Inv-loop μ-loop
 element-copy-out-if2 c = search needs
 
+mul-t11 : tie.Need-mul-t11 Inv-loop μ-loop
+mul-t11 c = search needs
+
+array-copy-out-t14 : tie.Need-array-copy-out-t14 Inv-loop μ-loop
+array-copy-out-t14 c = search needs
+
 returns-2 : tie.Need-returns-2 Inv-loop μ-loop
 returns-2 c =
-    let l = c .before .before .before .loop in
-    let a = c .before .before .before .before .before .before .args in
+    let same = c .before in
+    let here = same .before .before .before in
+    let l = here .loop in
+    let a = here .before .before .before .args in
     let size : length (a .t1) ≡ tableSize = search needs in
-    (sym (first-at free (hasTicket (a .ticket .0)) (a .t1) (l .at) (omega (arith, size)) (l .inv .1 .1) (own-ticket (a .ticket .0) (getD (a .t1) (l .at) free) (l .inv .1 .0) (c .if2 .taken))), size)
+    found-at (a .ticket .0) (a .t1) (l .at) (omega (arith, size)) (l .inv .1 .1)
+    (own-ticket (a .ticket .0) (getD (a .t1) (l .at) free) (l .inv .1 .0) (same .if2 .taken))
 
 add-at : tie.Need-add-at Inv-loop μ-loop
 add-at c = search needs
@@ -55,13 +68,16 @@ loop-again c =
     let a = c .before .before .before .before .before .before .args in
     (omega arith, (l .inv .1 .0, below-more _ _ (l .inv .1 .1) (other-ticket (a .ticket .0) (getD (a .t1) (l .at) free) (c .if2 .left))))
 
+nothing-found-requires-2 : tie.Need-nothing-found-requires-2 Inv-loop μ-loop
+nothing-found-requires-2 c κs = search needs
+
 returns-3 : tie.Need-returns-3 Inv-loop μ-loop
 returns-3 c =
-    let l = c .before .loop in
-    let a = c .before .before .before .before .args in
+    let end = c .before .before in
+    let l = end .loop in
+    let a = end .before .before .before .args in
     let size : length (a .t1) ≡ tableSize = search needs in
-    let end : l .at ≡ length (a .t1) = omega (arith, size) in
-    (end ∙ sym (first-none free (hasTicket (a .ticket .0)) (a .t1) (λ j h. l .inv .1 .1 j (rw (← end) at h))), size)
+    rw (c .nothing-found2 .ensures) (found-none (a .ticket .0) (a .t1) size (λ j h. l .inv .1 .1 j (omega arith)))
 
 pub find-spec : {M : Type 1} → statement M
 find-spec =
@@ -69,12 +85,16 @@ find-spec =
     (tie.spec
     Inv-loop
     μ-loop
+    nothing-found-requires
     returns
     loop-holds
     mul-if2
     element-copy-out-if2
+    mul-t11
+    array-copy-out-t14
     returns-2
     add-at
     loop-less
     loop-again
+    nothing-found-requires-2
     returns-3)
