@@ -1,0 +1,197 @@
+/* The C interface held to document 01's edges, and to what include/sealwax.h says of pointers, buffers and sizes. */
+#include "sealwax.h"
+#include <stdio.h>
+#include <string.h>
+
+static int failures;
+
+static void expect(int holds, const char *what, int line) {
+    if (!holds) {
+        printf("hosts/c/test.c:%d: %s\n", line, what);
+        failures++;
+    }
+}
+#define EXPECT(condition) expect((condition), #condition, __LINE__)
+
+/* 01's list: key id 7, X25519, pair (1, 3). */
+static const uint8_t list[43] = {0x00, 0x29, 0x07, 0x00, 0x20, 0x11, 0x11, 0x11, 0x11, 0x11, 0x11, 0x11, 0x11, 0x11, 0x11,
+                                 0x11, 0x11, 0x11, 0x11, 0x11, 0x11, 0x11, 0x11, 0x11, 0x11, 0x11, 0x11, 0x11, 0x11, 0x11,
+                                 0x11, 0x11, 0x11, 0x11, 0x11, 0x11, 0x11, 0x00, 0x04, 0x00, 0x01, 0x00, 0x03};
+static const uint8_t info_of_7[29] = "message/bhttp request\0\x07\x00\x20\x00\x01\x00\x03";
+
+static sealwax_gateway gateway;
+static uint8_t request[65537];
+static uint8_t enc[133], nonce[32];
+
+static void fresh(uint64_t cap) {
+    sealwax_setup_result ready = sealwax_setup(&gateway, list, sizeof list, cap);
+    EXPECT(ready.outcome.number == SEALWAX_ACCEPTED && ready.keys == 1);
+    memset(request, 0x33, sizeof request);
+    memcpy(request, "\x07\x00\x20\x00\x01\x00\x03", 7);
+}
+
+static sealwax_admit_result admit(size_t length) {
+    uint8_t info[SEALWAX_INFO_LENGTH];
+    return sealwax_admit(&gateway, request, length, info, sizeof info);
+}
+
+static int all_are(const uint8_t *bytes, size_t length, uint8_t value) {
+    for (size_t at = 0; at < length; at++) {
+        if (bytes[at] != value) {
+            return 0;
+        }
+    }
+    return 1;
+}
+
+static void setups(void) {
+    uint8_t twice[86];
+    memcpy(twice, list, 43);
+    memcpy(twice + 43, list, 43);
+    sealwax_setup_result answer = sealwax_setup(&gateway, twice, sizeof twice, 1);
+    EXPECT(answer.outcome.number == SEALWAX_BAD_KEY_LIST && answer.outcome.place == 43 && answer.outcome.status == 0);
+    EXPECT(sealwax_setup(&gateway, NULL, 0, 1).outcome.number == SEALWAX_BAD_KEY_LIST);
+    EXPECT(sealwax_setup(&gateway, list, 43, 0).outcome.number == SEALWAX_CAP_OUT_OF_RANGE);
+    EXPECT(sealwax_setup(&gateway, list, 43, UINT64_MAX).outcome.number == SEALWAX_CAP_OUT_OF_RANGE);
+    sealwax_report_result report = sealwax_report(&gateway);
+    EXPECT(report.outcome.number == 0 && report.key_count == 0 && report.last_ticket == 0 && report.pending == 0);
+    fresh(1);
+    EXPECT(sealwax_check(list, 43).configurations == 1);
+    EXPECT(sealwax_check(list, 42).outcome.number == SEALWAX_BAD_KEY_LIST);
+    sealwax_key_result key = sealwax_key(list, 43, 7);
+    EXPECT(key.start == 5 && key.end == 37);
+    EXPECT(sealwax_key(list, 43, 8).outcome.number == SEALWAX_NO_SUCH_KEY);
+}
+
+static void admissions(void) {
+    fresh(1000);
+    EXPECT(sealwax_admit(&gateway, NULL, 0, NULL, 0).outcome.number == SEALWAX_TOO_SHORT);
+    EXPECT(admit(54).outcome.number == SEALWAX_TOO_SHORT && admit(54).outcome.status == 400);
+    EXPECT(admit(65537).outcome.number == SEALWAX_TOO_LONG && admit(65537).outcome.status == 413);
+    uint8_t info[32];
+    memset(info, 0xa5, sizeof info);
+    sealwax_admit_result refused = sealwax_admit(&gateway, request, 55, info, 28);
+    EXPECT(refused.outcome.number == SEALWAX_NO_ROOM && refused.outcome.status == 500 && all_are(info, sizeof info, 0xa5));
+    sealwax_admit_result admitted = sealwax_admit(&gateway, request, 55, info, sizeof info);
+    EXPECT(admitted.outcome.number == 0 && admitted.outcome.status == 0 && admitted.ticket == 1 && admitted.key_id == 7);
+    EXPECT(admitted.kdf == 1 && admitted.aead == 3 && admitted.enc_start == 7 && admitted.enc_end == 39);
+    EXPECT(admitted.ciphertext_start == 39 && admitted.ciphertext_end == 55);
+    EXPECT(memcmp(info, info_of_7, 29) == 0 && all_are(info + 29, 3, 0xa5));
+    EXPECT(admit(65536).ticket == 2);
+    request[6] = 1;
+    sealwax_outcome pair = admit(55).outcome;
+    EXPECT(pair.number == SEALWAX_PAIR_NOT_OFFERED && pair.status == 400 && pair.problem == SEALWAX_OHTTP_KEY);
+    request[2] = 0x10;
+    EXPECT(admit(88).outcome.number == SEALWAX_OTHER_KEM && admit(88).outcome.problem == SEALWAX_OHTTP_KEY);
+    request[2] = 0x22;
+    EXPECT(admit(88).outcome.number == SEALWAX_UNKNOWN_KEM && admit(88).outcome.problem == SEALWAX_NO_PROBLEM);
+    fresh(1000);
+    request[0] = 8;
+    EXPECT(admit(55).outcome.number == SEALWAX_NO_SUCH_KEY);
+}
+
+static void steps(void) {
+    fresh(2);
+    EXPECT(admit(55).ticket == 1 && admit(55).ticket == 2 && admit(55).outcome.number == SEALWAX_KEY_USED_UP);
+    uint8_t salt[SEALWAX_LONGEST_SALT];
+    memset(salt, 0xa5, sizeof salt);
+    EXPECT(sealwax_respond(&gateway, 1, enc, 32, nonce, 32, 5, salt, sizeof salt).outcome.number == SEALWAX_STEP_NOT_ALLOWED);
+    EXPECT(sealwax_open(&gateway, 1, 1, 1).outcome.number == SEALWAX_WRONG_LENGTH);
+    EXPECT(sealwax_open(&gateway, 0, 1, 0).outcome.number == SEALWAX_NOT_PENDING);
+    EXPECT(sealwax_open(&gateway, 1, 255, 0).opened == 1);
+    EXPECT(sealwax_respond(&gateway, 1, enc, 32, nonce, 12, 5, salt, sizeof salt).outcome.number == SEALWAX_WRONG_LENGTH);
+    EXPECT(sealwax_respond(&gateway, 1, enc, 32, nonce, 32, 5, salt, 63).outcome.number == SEALWAX_NO_ROOM);
+    EXPECT(all_are(salt, sizeof salt, 0xa5));
+    memset(enc, 0xee, 32);
+    memset(nonce, 0x44, 32);
+    sealwax_respond_result sealed = sealwax_respond(&gateway, 1, enc, 32, nonce, 32, 5, salt, sizeof salt);
+    EXPECT(sealed.outcome.number == 0 && sealed.outcome.status == 200 && sealed.length == 53);
+    EXPECT(all_are(salt, 32, 0xee) && all_are(salt + 32, 32, 0x44) && all_are(salt + 64, sizeof salt - 64, 0xa5));
+    EXPECT(sealwax_abandon(&gateway, 1).number == SEALWAX_NOT_PENDING);
+    sealwax_open_result failed = sealwax_open(&gateway, 2, 0, UINT64_MAX);
+    EXPECT(failed.outcome.number == 0 && failed.outcome.status == 422 && failed.opened == 0);
+    sealwax_report_result report = sealwax_report(&gateway);
+    EXPECT(report.last_ticket == 2 && report.pending == 0 && report.keys[0].count == 2 && !report.keys[0].retired);
+    EXPECT(sealwax_retire(&gateway, 9).number == SEALWAX_NO_SUCH_KEY && sealwax_retire(&gateway, 7).number == 0);
+    EXPECT(sealwax_retire(&gateway, 7).number == SEALWAX_KEY_RETIRED && admit(55).outcome.number == SEALWAX_KEY_RETIRED);
+}
+
+/* A gateway is a value: a copy goes its own way, and a refusal leaves every byte as it was. */
+static void memory(void) {
+    fresh(1000);
+    for (uint64_t ticket = 1; ticket <= 128; ticket++) {
+        EXPECT(admit(55).ticket == ticket);
+    }
+    static sealwax_gateway copy;
+    memcpy(&copy, &gateway, sizeof copy);
+    EXPECT(admit(55).outcome.number == SEALWAX_TABLE_FULL && admit(55).outcome.status == 503);
+    EXPECT(sealwax_open(&gateway, 5, 1, 7).outcome.number == SEALWAX_WRONG_LENGTH);
+    EXPECT(sealwax_abandon(&gateway, 129).number == SEALWAX_NOT_PENDING);
+    EXPECT(sealwax_retire(&gateway, 0).number == SEALWAX_NO_SUCH_KEY);
+    EXPECT(memcmp(&copy, &gateway, sizeof copy) == 0);
+    EXPECT(sealwax_abandon(&gateway, 64).number == 0 && admit(55).ticket == 129);
+    EXPECT(sealwax_report(&copy).last_ticket == 128 && sealwax_report(&gateway).last_ticket == 129);
+}
+
+static void clients(void) {
+    const uint16_t kems[1] = {0x0020}, pairs[2] = {1, 3};
+    sealwax_choose_result chosen = sealwax_choose(list, 43, kems, 1, pairs, 2);
+    EXPECT(chosen.key_id == 7 && chosen.kem == 0x0020 && chosen.kdf == 1 && chosen.aead == 3);
+    EXPECT(chosen.key_start == 5 && chosen.key_end == 37);
+    EXPECT(sealwax_choose(list, 43, NULL, 0, pairs, 2).outcome.number == SEALWAX_NO_USABLE_CONFIGURATION);
+    EXPECT(sealwax_choose(list, 43, kems, 1, pairs, 1).outcome.number == SEALWAX_WRONG_LENGTH);
+    uint8_t head[SEALWAX_LONGEST_HEAD], info[SEALWAX_INFO_LENGTH];
+    memset(head, 0xa5, sizeof head);
+    sealwax_head_result written = sealwax_head(7, 0x0020, 1, 3, enc, 32, head, sizeof head, info, sizeof info);
+    EXPECT(written.outcome.number == 0 && written.length == 39 && memcmp(info, info_of_7, 29) == 0);
+    EXPECT(memcmp(head, info + 22, 7) == 0 && memcmp(head + 7, enc, 32) == 0 && all_are(head + 39, sizeof head - 39, 0xa5));
+    EXPECT(sealwax_head(7, 0x0012, 1, 3, enc, 133, head, sizeof head, info, sizeof info).length == SEALWAX_LONGEST_HEAD);
+    sealwax_split_result split = sealwax_split(1, request, 40);
+    EXPECT(split.nonce_length == 16 && split.ciphertext_length == 24);
+    EXPECT(sealwax_split(1, request, 31).outcome.number == SEALWAX_TOO_SHORT);
+    EXPECT(sealwax_split(0xffff, request, 40).outcome.number == SEALWAX_PAIR_NOT_OFFERED);
+    uint8_t context[SEALWAX_EXPORTER_CONTEXT_LENGTH];
+    sealwax_exporter_result exporter = sealwax_exporter(2, context, sizeof context);
+    EXPECT(exporter.context_length == 22 && exporter.secret_length == 32 && memcmp(context, "message/bhttp response", 22) == 0);
+    EXPECT(sealwax_exporter(2, context, 21).outcome.number == SEALWAX_NO_ROOM);
+    EXPECT(sealwax_exporter(4, context, 22).outcome.number == SEALWAX_PAIR_NOT_OFFERED);
+}
+
+/* The longest list: sixteen keys of P-521 with sixteen pairs each. */
+static void longest_list(void) {
+    static uint8_t ids[16], keys[16 * 133], buffer[SEALWAX_LONGEST_LIST + 1];
+    static uint16_t all_kems[16], all_pairs[16 * 32];
+    static size_t key_lengths[16], pair_counts[16];
+    for (size_t at = 0; at < 16; at++) {
+        ids[at] = (uint8_t)at;
+        all_kems[at] = 0x0012;
+        key_lengths[at] = 133;
+        pair_counts[at] = 32;
+    }
+    for (size_t at = 0; at < 16 * 32; at++) {
+        all_pairs[at] = 1;
+    }
+    memset(buffer, 0xa5, sizeof buffer);
+    sealwax_write_result result = sealwax_write(ids, 16, all_kems, 16, key_lengths, 16, keys, sizeof keys, pair_counts, 16, all_pairs,
+                                                16 * 32, buffer, sizeof buffer);
+    EXPECT(result.outcome.number == 0 && result.length == SEALWAX_LONGEST_LIST && buffer[SEALWAX_LONGEST_LIST] == 0xa5);
+    EXPECT(sealwax_check(buffer, SEALWAX_LONGEST_LIST).configurations == 16);
+    EXPECT(sealwax_setup(&gateway, buffer, SEALWAX_LONGEST_LIST, 1).keys == SEALWAX_MOST_KEYS);
+    ids[15] = 0;
+    result = sealwax_write(ids, 16, all_kems, 16, key_lengths, 16, keys, sizeof keys, pair_counts, 16, all_pairs, 16 * 32, buffer,
+                           sizeof buffer);
+    EXPECT(result.outcome.number == SEALWAX_BAD_KEY_LIST && result.outcome.place == 15 * 204);
+}
+
+int main(void) {
+    setups();
+    admissions();
+    steps();
+    memory();
+    clients();
+    longest_list();
+    if (failures == 0) {
+        puts("hosts/c: all hold");
+    }
+    return failures != 0;
+}
