@@ -1,0 +1,59 @@
+package sealwax
+
+/*
+#include "sealwax.h"
+*/
+import "C"
+
+// Check says how many configurations a key list has, or why it is bad. A bad list is discarded whole (RFC 9458, 3.2).
+func Check(list []byte) (configurations int, err error) {
+	result := C.sealwax_check((*C.uint8_t)(first(list)), C.size_t(len(list)))
+	return int(result.configurations), refused(result.outcome)
+}
+
+// PublicKey hands back a key's public key as a part of its list.
+func PublicKey(list []byte, id KeyID) ([]byte, error) {
+	result := C.sealwax_key((*C.uint8_t)(first(list)), C.size_t(len(list)), C.uint8_t(id))
+	if err := refused(result.outcome); err != nil {
+		return nil, err
+	}
+	return list[result.start:result.end], nil
+}
+
+// A Configuration is an entry of a key list.
+type Configuration struct {
+	ID        KeyID
+	KEM       KEM
+	PublicKey []byte
+	Pairs     []Pair
+}
+
+// WriteList writes a key list.
+func WriteList(configurations []Configuration) ([]byte, error) {
+	var (
+		ids        []KeyID
+		kems       []KEM
+		keyLengths []C.size_t
+		keys       []byte
+		pairCounts []C.size_t
+		pairs      []C.uint16_t
+	)
+	for _, configuration := range configurations {
+		numbers := byTurns(configuration.Pairs)
+		ids = append(ids, configuration.ID)
+		kems = append(kems, configuration.KEM)
+		keyLengths = append(keyLengths, C.size_t(len(configuration.PublicKey)))
+		keys = append(keys, configuration.PublicKey...)
+		pairCounts = append(pairCounts, C.size_t(len(numbers)))
+		pairs = append(pairs, numbers...)
+	}
+	list := make([]byte, LongestList)
+	result := C.sealwax_write((*C.uint8_t)(first(ids)), C.size_t(len(ids)), (*C.uint16_t)(first(kems)), C.size_t(len(kems)),
+		first(keyLengths), C.size_t(len(keyLengths)), (*C.uint8_t)(first(keys)), C.size_t(len(keys)),
+		first(pairCounts), C.size_t(len(pairCounts)), first(pairs), C.size_t(len(pairs)),
+		(*C.uint8_t)(first(list)), C.size_t(len(list)))
+	if err := refused(result.outcome); err != nil {
+		return nil, err
+	}
+	return list[:result.length], nil
+}

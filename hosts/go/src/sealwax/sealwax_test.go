@@ -1,0 +1,358 @@
+package sealwax
+
+import (
+	"bytes"
+	"encoding/hex"
+	"errors"
+	"sync"
+	"testing"
+)
+
+// unhex reads hex, spaces aside.
+func unhex(t *testing.T, digits string) []byte {
+	t.Helper()
+	b, err := hex.DecodeString(string(bytes.ReplaceAll([]byte(digits), []byte(" "), nil)))
+	if err != nil {
+		t.Fatal(err)
+	}
+	return b
+}
+
+// wants checks that an error is this refusal: number, place, status and problem type.
+func wants(t *testing.T, err error, want Refusal) {
+	t.Helper()
+	var refusal *Refusal
+	if !errors.As(err, &refusal) {
+		t.Fatalf("got %v, want %v", err, &want)
+	}
+	if *refusal != want {
+		t.Fatalf("got %+v, want %+v", *refusal, want)
+	}
+	if Sentence(refusal.Number) == "" || refusal.Error() == "" {
+		t.Errorf("no sentence for %d", refusal.Number)
+	}
+}
+
+// edgeList is 01's list: key id 7, KEM 0x0020, 32 bytes 11, pair (1, 3).
+func edgeList(t *testing.T) []byte {
+	list := unhex(t, "0029 07 0020")
+	list = append(list, bytes.Repeat([]byte{0x11}, 32)...)
+	return append(list, unhex(t, "0004 0001 0003")...)
+}
+
+// asked is a request of length bytes that begins with this head.
+func asked(t *testing.T, head string, length int) []byte {
+	request := make([]byte, length)
+	copy(request, unhex(t, head))
+	return request
+}
+
+func setup(t *testing.T, list []byte, keyCap uint64) *Gateway {
+	t.Helper()
+	gateway, err := Setup(list, keyCap)
+	if err != nil {
+		t.Fatal(err)
+	}
+	return gateway
+}
+
+func TestKeyList(t *testing.T) {
+	list := edgeList(t)
+	if n, err := Check(list); n != 1 || err != nil {
+		t.Fatal(n, err)
+	}
+	key, err := PublicKey(list, 7)
+	if err != nil || !bytes.Equal(key, list[5:37]) {
+		t.Fatal(key, err)
+	}
+	_, err = PublicKey(list, 8)
+	wants(t, err, Refusal{Number: NoSuchKey})
+	_, err = Check(append(list, list...))
+	wants(t, err, Refusal{Number: BadKeyList, Place: 43})
+	_, err = Setup(append(list, list...), 1)
+	wants(t, err, Refusal{Number: BadKeyList, Place: 43})
+	for _, keyCap := range []uint64{0, 1_000_000_001, 1 << 63} {
+		_, err = Setup(list, keyCap)
+		wants(t, err, Refusal{Number: CapOutOfRange})
+	}
+	for _, empty := range [][]byte{nil, {}} {
+		_, err = Check(empty)
+		wants(t, err, Refusal{Number: BadKeyList})
+		_, err = Setup(empty, 1)
+		wants(t, err, Refusal{Number: BadKeyList})
+		_, err = Choose(empty, nil, nil)
+		wants(t, err, Refusal{Number: BadKeyList})
+	}
+}
+
+func TestWriteList(t *testing.T) {
+	one := Configuration{ID: 7, KEM: 0x0020, PublicKey: bytes.Repeat([]byte{0x11}, 32), Pairs: []Pair{{1, 3}}}
+	list, err := WriteList([]Configuration{one})
+	if err != nil || !bytes.Equal(list, edgeList(t)) {
+		t.Fatal(list, err)
+	}
+	_, err = WriteList([]Configuration{one, one})
+	wants(t, err, Refusal{Number: BadKeyList, Place: 43})
+	_, err = WriteList(nil)
+	wants(t, err, Refusal{Number: BadKeyList})
+	_, err = WriteList([]Configuration{{ID: 7, KEM: 0x0020, PublicKey: one.PublicKey}})
+	wants(t, err, Refusal{Number: BadKeyList})
+
+	// The longest list there is: sixteen of the longest key with sixteen pairs.
+	var most []Configuration
+	for id := 0; id < MostKeys; id++ {
+		most = append(most, Configuration{KeyID(id), 0x0012, make([]byte, 133), make([]Pair, 16)})
+	}
+	list, err = WriteList(most)
+	if err != nil || len(list) != LongestList {
+		t.Fatal(len(list), err)
+	}
+	if n, err := Check(list); n != MostKeys || err != nil {
+		t.Fatal(n, err)
+	}
+}
+
+// TestEdges goes through 01's edges.
+func TestEdges(t *testing.T) {
+	const head = "07 0020 0001 0003"
+	gateway := setup(t, edgeList(t), 2)
+	for _, refused := range []struct {
+		request []byte
+		want    Refusal
+	}{
+		{nil, Refusal{Number: TooShort, Status: 400}},
+		{[]byte{}, Refusal{Number: TooShort, Status: 400}},
+		{asked(t, head, 54), Refusal{Number: TooShort, Status: 400}},
+		{make([]byte, LongestRequest+1), Refusal{Number: TooLong, Status: 413}},
+		{asked(t, "07 0030 0001 0003", 55), Refusal{Number: UnknownKEM, Status: 400}},
+		{asked(t, "08 0020 0001 0003", 55), Refusal{Number: NoSuchKey, Status: 400, Problem: OHTTPKey}},
+		{asked(t, "07 0010 0001 0003", 88), Refusal{Number: OtherKEM, Status: 400, Problem: OHTTPKey}},
+		{asked(t, "07 0020 0001 0001", 55), Refusal{Number: PairNotOffered, Status: 400, Problem: OHTTPKey}},
+	} {
+		_, err := gateway.Admit(refused.request)
+		wants(t, err, refused.want)
+	}
+	if report := gateway.Report(); report.LastTicket != 0 || report.Pending != 0 || report.Keys[0].Count != 0 {
+		t.Fatalf("refusals changed the gateway: %+v", report)
+	}
+
+	request := asked(t, head, 55)
+	one, err := gateway.Admit(request)
+	if err != nil {
+		t.Fatal(err)
+	}
+	if one.Ticket != 1 || one.KeyID != 7 || one.Pair != (Pair{1, 3}) {
+		t.Errorf("%+v", one)
+	}
+	if &one.Enc[0] != &request[7] || len(one.Enc) != 32 || &one.Ciphertext[0] != &request[39] || len(one.Ciphertext) != 16 {
+		t.Error("enc or ciphertext is not that part of the request")
+	}
+	if !bytes.Equal(one.Info, unhex(t, "6d6573736167652f626874747020726571756573740007002000010003")) {
+		t.Errorf("info %x", one.Info)
+	}
+	two, err := gateway.Admit(asked(t, head, LongestRequest))
+	if err != nil || two.Ticket != 2 || len(two.Ciphertext) != LongestRequest-39 {
+		t.Fatal(two.Ticket, len(two.Ciphertext), err)
+	}
+	_, err = gateway.Admit(request)
+	wants(t, err, Refusal{Number: KeyUsedUp, Status: 400, Problem: OHTTPKey})
+
+	// Steps out of turn.
+	nonce := make([]byte, 32)
+	_, err = gateway.Respond(1, one.Enc, nonce, 0)
+	wants(t, err, Refusal{Number: StepNotAllowed})
+	wants(t, gateway.Opened(1, 1), Refusal{Number: WrongLength})
+	wants(t, gateway.Opened(1, -1), Refusal{Number: WrongLength})
+	wants(t, gateway.Opened(0, 0), Refusal{Number: NotPending})
+	if err := gateway.Opened(1, 0); err != nil {
+		t.Fatal(err)
+	}
+	wants(t, gateway.Opened(1, 0), Refusal{Number: StepNotAllowed})
+	for _, wrong := range []struct {
+		enc, nonce []byte
+		length     int
+	}{
+		{one.Enc[:31], nonce, 0}, {nil, nonce, 0}, {one.Enc, nonce[:12], 0}, {one.Enc, nil, 0}, {one.Enc, nonce, 65537},
+	} {
+		_, err = gateway.Respond(1, wrong.enc, wrong.nonce, wrong.length)
+		wants(t, err, Refusal{Number: WrongLength})
+	}
+
+	// Ticket 2 is answered before 1.
+	status, err := gateway.NotOpened(2)
+	if status != 422 || err != nil {
+		t.Fatal(status, err)
+	}
+	copy(nonce, "nonce")
+	response, err := gateway.Respond(1, one.Enc, nonce, 65536)
+	if err != nil || response.Status != 200 || response.Length != LongestResponse {
+		t.Fatal(response.Status, response.Length, err)
+	}
+	if !bytes.Equal(response.Salt, append(append([]byte{}, one.Enc...), nonce...)) {
+		t.Errorf("salt %x", response.Salt)
+	}
+	_, err = gateway.Respond(1, one.Enc, nonce, 0)
+	wants(t, err, Refusal{Number: NotPending})
+	wants(t, gateway.Abandon(2), Refusal{Number: NotPending})
+
+	wants(t, gateway.Retire(8), Refusal{Number: NoSuchKey})
+	if err := gateway.Retire(7); err != nil {
+		t.Fatal(err)
+	}
+	wants(t, gateway.Retire(7), Refusal{Number: KeyRetired})
+	_, err = gateway.Admit(request)
+	wants(t, err, Refusal{Number: KeyRetired, Status: 400, Problem: OHTTPKey})
+	report := gateway.Report()
+	if report.LastTicket != 2 || report.Pending != 0 || len(report.Keys) != 1 || report.Keys[0] != (KeyReport{7, 2, true}) {
+		t.Errorf("%+v", report)
+	}
+}
+
+func TestTableFull(t *testing.T) {
+	gateway := setup(t, edgeList(t), 1000)
+	request := asked(t, "07 0020 0001 0003", 55)
+	for ticket := Ticket(1); ticket <= 128; ticket++ {
+		if admission, err := gateway.Admit(request); err != nil || admission.Ticket != ticket {
+			t.Fatal(admission.Ticket, err)
+		}
+	}
+	_, err := gateway.Admit(request)
+	wants(t, err, Refusal{Number: TableFull, Status: 503})
+	if err := gateway.Abandon(77); err != nil {
+		t.Fatal(err)
+	}
+	if admission, err := gateway.Admit(request); err != nil || admission.Ticket != 129 {
+		t.Fatal(admission.Ticket, err)
+	}
+	if report := gateway.Report(); report.Pending != 128 || report.Keys[0].Count != 129 {
+		t.Errorf("%+v", report)
+	}
+}
+
+func TestClientSide(t *testing.T) {
+	list := edgeList(t)
+	choice, err := Choose(list, []KEM{0x0010, 0x0020}, []Pair{{1, 1}, {1, 3}})
+	if err != nil {
+		t.Fatal(err)
+	}
+	if choice.KeyID != 7 || choice.KEM != 0x0020 || choice.Pair != (Pair{1, 3}) || &choice.PublicKey[0] != &list[5] {
+		t.Errorf("%+v", choice)
+	}
+	for _, cannot := range []struct {
+		kems  []KEM
+		pairs []Pair
+	}{
+		{nil, []Pair{{1, 3}}}, {[]KEM{0x0020}, nil}, {[]KEM{0x0010}, []Pair{{1, 3}}}, {[]KEM{0x0020}, []Pair{{3, 1}}},
+	} {
+		_, err := Choose(list, cannot.kems, cannot.pairs)
+		wants(t, err, Refusal{Number: NoUsableConfiguration})
+	}
+
+	enc := bytes.Repeat([]byte{0x22}, 32)
+	head, info, err := Head(choice, enc)
+	if err != nil || !bytes.Equal(head, append(unhex(t, "07 0020 0001 0003"), enc...)) {
+		t.Errorf("head %x, %v", head, err)
+	}
+	if !bytes.Equal(info, unhex(t, "6d6573736167652f626874747020726571756573740007002000010003")) {
+		t.Errorf("info %x", info)
+	}
+	_, _, err = Head(choice, nil)
+	wants(t, err, Refusal{Number: WrongLength})
+	_, _, err = Head(Choice{KEM: 0x0030}, enc)
+	wants(t, err, Refusal{Number: UnknownKEM})
+	_, _, err = Head(Choice{KEM: 0x0020, Pair: Pair{1, 0xffff}}, enc)
+	wants(t, err, Refusal{Number: PairNotOffered})
+
+	// The nonce has 16, 32 and 32 bytes, and so has the secret.
+	for aead, length := range map[AEAD]int{1: 16, 2: 32, 3: 32} {
+		context, secret, err := Exporter(aead)
+		if err != nil || string(context) != "message/bhttp response" || secret != length {
+			t.Errorf("exporter of %d: %q, %d, %v", aead, context, secret, err)
+		}
+		response := make([]byte, length+17)
+		nonce, ciphertext, err := Split(aead, response)
+		if err != nil || len(nonce) != length || len(ciphertext) != 17 || &nonce[0] != &response[0] || &ciphertext[0] != &response[length] {
+			t.Errorf("split of %d: %d and %d, %v", aead, len(nonce), len(ciphertext), err)
+		}
+		_, _, err = Split(aead, response[:length+15])
+		wants(t, err, Refusal{Number: TooShort})
+		_, _, err = Split(aead, make([]byte, length+65553))
+		wants(t, err, Refusal{Number: TooLong})
+		_, _, err = Split(aead, nil)
+		wants(t, err, Refusal{Number: TooShort})
+	}
+	_, _, err = Exporter(0xffff)
+	wants(t, err, Refusal{Number: PairNotOffered})
+	_, _, err = Split(4, nil)
+	wants(t, err, Refusal{Number: PairNotOffered})
+}
+
+// One gateway, one lock: calls at the same time lose no use, no ticket and no place.
+func TestLock(t *testing.T) {
+	const callers, exchanges = 8, 4000
+	gateway := setup(t, edgeList(t), callers*exchanges)
+	request := asked(t, "07 0020 0001 0003", 55)
+	var (
+		callersDone sync.WaitGroup
+		lock        sync.Mutex
+		seen        = map[Ticket]bool{}
+	)
+	for i := 0; i < callers; i++ {
+		callersDone.Add(1)
+		go func(end int) {
+			defer callersDone.Done()
+			var tickets []Ticket
+			for n := 0; n < exchanges; n++ {
+				admission, err := gateway.Admit(request)
+				if err != nil {
+					t.Error(err)
+					return
+				}
+				tickets = append(tickets, admission.Ticket)
+				switch (n + end) % 3 {
+				case 0:
+					_, err = gateway.NotOpened(admission.Ticket)
+				case 1:
+					err = gateway.Abandon(admission.Ticket)
+				case 2:
+					if err = gateway.Opened(admission.Ticket, 0); err == nil {
+						_, err = gateway.Respond(admission.Ticket, admission.Enc, make([]byte, 32), 0)
+					}
+				}
+				if err != nil {
+					t.Error(err)
+					return
+				}
+				gateway.Report()
+			}
+			lock.Lock()
+			defer lock.Unlock()
+			for _, ticket := range tickets {
+				seen[ticket] = true
+			}
+		}(i)
+	}
+	callersDone.Wait()
+	report := gateway.Report()
+	if report.LastTicket != callers*exchanges || report.Pending != 0 || report.Keys[0].Count != callers*exchanges {
+		t.Errorf("%+v", report)
+	}
+	if len(seen) != callers*exchanges {
+		t.Errorf("%d tickets for %d admissions", len(seen), callers*exchanges)
+	}
+}
+
+// Each number has its own sentence, so that what goes out tells refusals apart.
+func TestSentences(t *testing.T) {
+	seen := map[string]int{}
+	for number := TooShort; number <= CapOutOfRange; number++ {
+		if number == 10 { // kept free
+			continue
+		}
+		sentence := Sentence(number)
+		if other, there := seen[sentence]; there || sentence == "" {
+			t.Errorf("%d has the sentence %q, and so has %d", number, sentence, other)
+		}
+		seen[sentence] = number
+	}
+}
