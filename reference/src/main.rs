@@ -1,29 +1,8 @@
 //! The reference: an independent implementation of the gateway's bookkeeping (document 01),
 //! which `sealwax` is held against.
 
-mod algorithms;
-mod answer;
-mod book;
-mod call;
-mod client;
-mod compare;
-mod day;
-mod edges;
-mod gateway;
-mod generate;
-mod keeper;
-mod key_list;
-mod lines;
-mod list_writer;
-mod moved;
-mod perform;
-mod random;
-mod refusal;
-mod replay;
-mod request;
-mod table;
-
-use compare::{cut, Difference, Summary};
+use reference::compare::{self, cut, Difference, Summary};
+use reference::{call, day, edges, generate, replay};
 use std::fs::{self, File};
 use std::io::{self, BufReader, BufWriter};
 use std::process::exit;

@@ -1,0 +1,261 @@
+//! Key lists: read, written, and chosen from.
+
+use crate::client::{self, Head};
+use crate::raw;
+use crate::refusal::Refusal;
+
+/// A KDF and an AEAD that belong together.
+#[derive(Clone, Copy, Debug, PartialEq, Eq)]
+pub struct Pair {
+    /// The KDF's number.
+    pub kdf: u16,
+    /// The AEAD's number.
+    pub aead: u16,
+}
+
+/// A configuration of a key list, to be written.
+#[derive(Clone, Copy, Debug, PartialEq, Eq)]
+pub struct Configuration<'c> {
+    /// The key's id, of its own in the list.
+    pub key_id: u8,
+    /// The KEM's number.
+    pub kem: u16,
+    /// The public key, as long as the KEM's are.
+    pub public_key: &'c [u8],
+    /// 1 to 16 pairs, the preferred one first.
+    pub pairs: &'c [Pair],
+}
+
+/// A key list (RFC 9458, 3), the media type `application/ohttp-keys`, over the bytes that hold it.
+///
+/// Every call reads the whole list first, and a list with one bad configuration is refused whole:
+/// 15, with the place of the first bad one.
+///
+/// ```
+/// use sealwax::{Configuration, KeyList, Pair};
+///
+/// let pairs = [Pair { kdf: 0x0001, aead: 0x0001 }, Pair { kdf: 0x0001, aead: 0x0003 }];
+/// let bytes = KeyList::write(&[Configuration {
+///     key_id: 7,
+///     kem: 0x0020,
+///     public_key: &[0x11; 32],
+///     pairs: &pairs,
+/// }])?;
+/// let list = KeyList::new(&bytes);
+/// assert_eq!(list.check()?, 1);
+/// assert_eq!(list.key(7)?, [0x11; 32]);
+///
+/// let damaged = KeyList::new(&bytes[..46]);
+/// assert_eq!(
+///     damaged.check().unwrap_err().to_string(),
+///     "the key list is bad at offset 0 (refusal 15)"
+/// );
+/// # Ok::<(), sealwax::Refusal>(())
+/// ```
+#[derive(Clone, Copy, Debug, PartialEq, Eq)]
+pub struct KeyList<'l> {
+    bytes: &'l [u8],
+}
+
+/// What a client uses of a list.
+#[derive(Clone, Copy, Debug, PartialEq, Eq)]
+pub struct Choice<'l> {
+    /// The key's id.
+    pub key_id: u8,
+    /// The KEM's number.
+    pub kem: u16,
+    /// The pair to use with it.
+    pub pair: Pair,
+    /// The public key, a part of the list.
+    pub public_key: &'l [u8],
+}
+
+impl<'l> KeyList<'l> {
+    /// A list over any bytes; each call says whether they are good.
+    pub fn new(bytes: &'l [u8]) -> KeyList<'l> {
+        KeyList { bytes }
+    }
+
+    /// How many configurations a good list has. Refusal: 15.
+    pub fn check(self) -> Result<usize, Refusal> {
+        let result = raw::check(self.bytes);
+        Refusal::or(result.outcome, result.configurations)
+    }
+
+    /// The public key of a key id, a part of the list. Refusals: 15, 4.
+    pub fn key(self, key_id: u8) -> Result<&'l [u8], Refusal> {
+        let result = raw::key(self.bytes, key_id);
+        Refusal::or(result.outcome, ())?;
+        Ok(&self.bytes[result.start..result.end])
+    }
+
+    /// The first configuration, and of its pairs the first, that a client can use who knows these
+    /// KEMs and these pairs. Refusals: 15, 16.
+    pub fn choose(self, kems: &[u16], pairs: &[Pair]) -> Result<Choice<'l>, Refusal> {
+        let result = raw::choose(self.bytes, kems, &by_turns(pairs));
+        Refusal::or(result.outcome, ())?;
+        Ok(Choice {
+            key_id: result.key_id,
+            kem: result.kem,
+            pair: Pair {
+                kdf: result.kdf,
+                aead: result.aead,
+            },
+            public_key: &self.bytes[result.key_start..result.key_end],
+        })
+    }
+
+    /// Writes a list of these configurations. Refusal: 15, with the offset where the bad
+    /// configuration would start.
+    pub fn write(configurations: &[Configuration]) -> Result<Vec<u8>, Refusal> {
+        let mut list = vec![0; raw::LONGEST_LIST];
+        let length = KeyList::write_into(configurations, &mut list)?;
+        list.truncate(length);
+        Ok(list)
+    }
+
+    /// Writes a list at the front of a buffer and answers its length; the rest stays. Refusals: 15,
+    /// 14.
+    pub fn write_into(
+        configurations: &[Configuration],
+        buffer: &mut [u8],
+    ) -> Result<usize, Refusal> {
+        let mut fields = raw::Fields::default();
+        for configuration in configurations {
+            fields.key_ids.push(configuration.key_id);
+            fields.kems.push(configuration.kem);
+            fields.key_lengths.push(configuration.public_key.len());
+            fields.keys.extend_from_slice(configuration.public_key);
+            fields.pair_counts.push(2 * configuration.pairs.len());
+            fields.pairs.extend(by_turns(configuration.pairs));
+        }
+        let result = raw::write(&fields, buffer);
+        Refusal::or(result.outcome, result.length)
+    }
+}
+
+impl Choice<'_> {
+    /// HPKE's info, which is needed before there is an enc.
+    pub fn info(&self) -> Result<[u8; raw::INFO_LENGTH], Refusal> {
+        // Info is the same for every enc, and an enc is as long as the KEM's public keys.
+        let any_enc = self.public_key;
+        Ok(self.head(any_enc)?.info)
+    }
+
+    /// The head of a request to this key: [`head`](crate::head) with what was chosen.
+    pub fn head(&self, enc: &[u8]) -> Result<Head, Refusal> {
+        client::head(self.key_id, self.kem, self.pair, enc)
+    }
+}
+
+/// The numbers of pairs as the library takes them: KDF and AEAD by turns.
+fn by_turns(pairs: &[Pair]) -> Vec<u16> {
+    pairs
+        .iter()
+        .flat_map(|pair| [pair.kdf, pair.aead])
+        .collect()
+}
+
+#[cfg(test)]
+pub(crate) mod tests {
+    use super::*;
+
+    const PAIRS: [Pair; 1] = [Pair { kdf: 1, aead: 3 }];
+
+    const EDGE: Configuration = Configuration {
+        key_id: 7,
+        kem: 0x0020,
+        public_key: &[0x11; 32],
+        pairs: &PAIRS,
+    };
+
+    /// 01's edge list: one key, id 7, pair (1, 3).
+    pub(crate) fn edge_list() -> Vec<u8> {
+        let start = [0x00, 0x29, 0x07, 0x00, 0x20];
+        let end = [0x00, 0x04, 0x00, 0x01, 0x00, 0x03];
+        [&start[..], &[0x11; 32], &end].concat()
+    }
+
+    #[test]
+    fn the_edge_list() {
+        let bytes = edge_list();
+        let list = KeyList::new(&bytes);
+        assert_eq!(list.check(), Ok(1));
+        let key = list.key(7).unwrap();
+        // A part of the list, not a copy.
+        assert!(std::ptr::eq(key, &bytes[5..37]));
+        assert_eq!(list.key(8).unwrap_err().number(), 4);
+        let twice = [&bytes[..], &bytes].concat();
+        let refusal = KeyList::new(&twice).check().unwrap_err();
+        assert!(matches!(refusal, Refusal::BadKeyList { place: 43, .. }));
+    }
+
+    #[test]
+    fn the_writer() {
+        assert_eq!(KeyList::write(&[EDGE]), Ok(edge_list()));
+        let refusal = KeyList::write(&[EDGE, EDGE]).unwrap_err();
+        assert!(matches!(refusal, Refusal::BadKeyList { place: 43, .. }));
+        assert_eq!(KeyList::write(&[]).unwrap_err().number(), 15);
+        let mut small = [0xa5; 42];
+        let refusal = KeyList::write_into(&[EDGE], &mut small).unwrap_err();
+        assert_eq!((refusal.number(), small), (14, [0xa5; 42]));
+        let mut large = [0xa5; 44];
+        assert_eq!(KeyList::write_into(&[EDGE], &mut large), Ok(43));
+        assert_eq!(large[..43], edge_list());
+        assert_eq!(large[43], 0xa5);
+    }
+
+    #[test]
+    fn the_longest_list() {
+        let most = [Pair { kdf: 9, aead: 9 }; 16];
+        let longest = Configuration {
+            key_id: 0,
+            kem: 0x0012,
+            public_key: &[0x22; 133],
+            pairs: &most,
+        };
+        let mut all: Vec<Configuration> = (0..16)
+            .map(|key_id| Configuration { key_id, ..longest })
+            .collect();
+        let list = KeyList::write(&all).unwrap();
+        assert_eq!(list.len(), raw::LONGEST_LIST);
+        assert_eq!(KeyList::new(&list).check(), Ok(16));
+        all.push(Configuration {
+            key_id: 16,
+            ..longest
+        });
+        let refusal = KeyList::write(&all).unwrap_err();
+        assert!(matches!(refusal, Refusal::BadKeyList { place: 3264, .. }));
+    }
+
+    #[test]
+    fn choose_takes_the_first_that_fits() {
+        let bytes = edge_list();
+        let list = KeyList::new(&bytes);
+        let choice = list.choose(&[0x0010, 0x0020], &PAIRS).unwrap();
+        assert_eq!((choice.key_id, choice.kem), (7, 0x0020));
+        assert_eq!(choice.pair, PAIRS[0]);
+        assert!(std::ptr::eq(choice.public_key, &bytes[5..37]));
+        let other = [Pair { kdf: 3, aead: 1 }];
+        for (kems, pairs) in [
+            (&[0x0020][..], &other[..]),
+            (&[0x0010], &PAIRS),
+            (&[], &PAIRS),
+            (&[0x0020], &[]),
+        ] {
+            let refusal = list.choose(kems, pairs).unwrap_err();
+            assert_eq!(refusal.number(), 16);
+        }
+    }
+
+    #[test]
+    fn info_is_the_same_for_every_enc() {
+        let bytes = edge_list();
+        let choice = KeyList::new(&bytes).choose(&[0x0020], &PAIRS).unwrap();
+        let head = choice.head(&[0x44; 32]).unwrap();
+        assert_eq!(choice.info(), Ok(head.info));
+        assert_eq!(head.bytes[..7], [7, 0x00, 0x20, 0x00, 0x01, 0x00, 0x03]);
+        assert_eq!(head.bytes[7..], [0x44; 32]);
+        assert_eq!(choice.head(&[0x44; 31]).unwrap_err().number(), 13);
+    }
+}
