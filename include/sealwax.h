@@ -14,6 +14,7 @@
  * What a host must not do:
  *   - call two functions on one gateway at the same time: one gateway, one lock;
  *   - write into a gateway, or pass one that sealwax_setup did not make. A gateway may be copied with memcpy;
+ *   - compare, hash or store a gateway by its bytes: those between its fields may hold anything. sealwax_report says what is in it;
  *   - let a buffer that is written overlap the gateway or any other argument.
  */
 #ifndef SEALWAX_H

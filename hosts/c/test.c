@@ -116,7 +116,7 @@ static void steps(void) {
     EXPECT(sealwax_retire(&gateway, 7).number == SEALWAX_KEY_RETIRED && admit(55).outcome.number == SEALWAX_KEY_RETIRED);
 }
 
-/* A gateway is a value: a copy goes its own way, and a refusal leaves every byte as it was. */
+/* A gateway is a value: a copy goes its own way. Refused calls leave counts, tickets and every exchange as they were. */
 static void memory(void) {
     fresh(1000);
     for (uint64_t ticket = 1; ticket <= 128; ticket++) {
@@ -128,7 +128,11 @@ static void memory(void) {
     EXPECT(sealwax_open(&gateway, 5, 1, 7).outcome.number == SEALWAX_WRONG_LENGTH);
     EXPECT(sealwax_abandon(&gateway, 129).number == SEALWAX_NOT_PENDING);
     EXPECT(sealwax_retire(&gateway, 0).number == SEALWAX_NO_SUCH_KEY);
-    EXPECT(memcmp(&copy, &gateway, sizeof copy) == 0);
+    sealwax_report_result report = sealwax_report(&gateway);
+    EXPECT(report.last_ticket == 128 && report.pending == 128 && report.keys[0].count == 128 && !report.keys[0].retired);
+    for (uint64_t ticket = 1; ticket <= 128; ticket++) {
+        EXPECT(sealwax_open(&gateway, ticket, 1, 0).opened == 1);
+    }
     EXPECT(sealwax_abandon(&gateway, 64).number == 0 && admit(55).ticket == 129);
     EXPECT(sealwax_report(&copy).last_ticket == 128 && sealwax_report(&gateway).last_ticket == 129);
 }

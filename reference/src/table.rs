@@ -4,7 +4,7 @@ use crate::call::{Call, Line};
 
 /// Each call and the answers that 01 makes possible for it. An abandon is never refused with 12,
 /// since it is allowed from asked and from opened.
-const POSSIBLE: [(&str, &[&str]); 14] = [
+pub const POSSIBLE: [(&str, &[&str]); 14] = [
     ("setup", &["ready", "15", "17"]),
     (
         "admit",
@@ -96,7 +96,8 @@ fn answer_name(answer: &str) -> &str {
     rest.split(' ').next().unwrap_or("")
 }
 
-fn name(call: &Call) -> &'static str {
+/// The call's name, as in [`POSSIBLE`].
+pub fn name(call: &Call) -> &'static str {
     match call {
         Call::Setup { .. } => "setup",
         Call::Admit { .. } => "admit",

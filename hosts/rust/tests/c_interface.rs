@@ -17,8 +17,9 @@ use reference::key_list::{public_key, read_list};
 use reference::list_writer::{write_list, Fields};
 use reference::refusal::{is_key_problem, refusal, status, Refusal};
 use reference::request::write_front;
+use reference::table::{name, POSSIBLE};
 use sealwax as _;
-use std::collections::BTreeMap;
+use std::collections::{BTreeMap, BTreeSet};
 use std::mem::size_of;
 
 /// A buffer that is lent, with bytes around it that nobody may write.
@@ -377,42 +378,16 @@ fn compare_exporter(aead: u16, room: usize) -> Outcome {
     outcome
 }
 
-/// The call's kind, for what is counted.
-fn name(call: &Call) -> &'static str {
-    match call {
-        Call::Setup { .. } => "setup",
-        Call::Admit { .. } => "admit",
-        Call::Open { .. } => "open",
-        Call::Respond { .. } => "respond",
-        Call::Abandon { .. } => "abandon",
-        Call::Retire { .. } => "retire",
-        Call::Report => "report",
-        Call::Check { .. } => "check",
-        Call::Key { .. } => "key",
-        Call::Choose { .. } => "choose",
-        Call::Head { .. } => "head",
-        Call::Split { .. } => "split",
-        Call::Write { .. } => "write",
-        Call::Exporter { .. } => "exporter",
-    }
-}
-
 /// Each call and the numbers that 01 makes possible for it, 0 for accepted.
-const POSSIBLE: [(&str, &[u8]); 13] = [
-    ("setup", &[0, 15, 17]),
-    ("admit", &[0, 1, 2, 3, 4, 5, 6, 7, 8, 9, 14]),
-    ("open", &[0, 11, 12, 13]),
-    ("respond", &[0, 11, 12, 13, 14]),
-    ("abandon", &[0, 11]),
-    ("retire", &[0, 4, 7]),
-    ("report", &[0]),
-    ("check", &[0, 15]),
-    ("key", &[0, 15, 4]),
-    ("choose", &[0, 15, 13, 16]),
-    ("head", &[0, 3, 6, 13, 14]),
-    ("split", &[0, 6, 1, 2]),
-    ("write", &[0, 15, 14]),
-];
+fn possible() -> BTreeSet<(&'static str, u8)> {
+    let exported = POSSIBLE.iter().filter(|(call, _)| *call != "bad line");
+    exported
+        .flat_map(|(call, answers)| {
+            let numbers = answers.iter().map(|answer| answer.parse().unwrap_or(0));
+            numbers.map(|number| (*call, number))
+        })
+        .collect()
+}
 
 /// Each answer is reached at least so often, so that none goes without comparison.
 const LEAST: u64 = 20;
@@ -428,11 +403,9 @@ fn generated_calls() {
             *reached.entry((name(call), number)).or_insert(0) += 1;
         }
     }
-    for (call, numbers) in POSSIBLE {
-        for number in numbers {
-            let times = reached.remove(&(call, *number)).unwrap_or(0);
-            assert!(times >= LEAST, "{call} answered {number} {times} times");
-        }
+    for (call, number) in possible() {
+        let times = reached.remove(&(call, number)).unwrap_or(0);
+        assert!(times >= LEAST, "{call} answered {number} {times} times");
     }
     assert!(reached.is_empty(), "answers that 01 rules out: {reached:?}");
 }
