@@ -215,32 +215,21 @@ func (s *Service) exchange(client context.Context, request []byte) (answer reply
 
 	opened, received, err := s.private[admission.KeyID].Open(admission)
 	if err != nil {
-		status, err := s.gateway.NotOpened(admission.Ticket)
-		if err != nil {
-			return s.fail(admission.Ticket, err)
-		}
-		closed = true
-		s.count(func(t *Tally) { t.NotOpened++ })
-		return unprotected(status, "request could not be opened"), true
+		answer, closed = s.notOpened(admission.Ticket)
+		return answer, closed
 	}
 	if err := s.gateway.Opened(admission.Ticket, len(opened)); err != nil {
 		return s.fail(admission.Ticket, err)
 	}
-
 	plain := s.ask(client, admission.Ticket, opened)
 	if client.Err() != nil {
 		return reply{}, false
 	}
-
 	nonce, err := received.Nonce()
 	if err != nil {
 		return s.fail(admission.Ticket, err)
 	}
-	response, err := s.gateway.Respond(admission.Ticket, admission.Enc, nonce, len(plain))
-	if sealwax.IsRefusal(err, sealwax.WrongLength) { // longer than a response may be: an error of the target like others
-		plain = badGateway
-		response, err = s.gateway.Respond(admission.Ticket, admission.Enc, nonce, len(plain))
-	}
+	response, plain, err := s.respond(admission, nonce, plain)
 	if err != nil {
 		return s.fail(admission.Ticket, err)
 	}
@@ -251,6 +240,27 @@ func (s *Service) exchange(client context.Context, request []byte) (answer reply
 	}
 	s.count(func(t *Tally) { t.Answered++ })
 	return reply{response.Status, ohttp.ResponseType, sealed}, true
+}
+
+// notOpened closes an exchange whose request could not be opened, and is the unprotected answer to it.
+func (s *Service) notOpened(ticket sealwax.Ticket) (answer reply, closed bool) {
+	status, err := s.gateway.NotOpened(ticket)
+	if err != nil {
+		return s.fail(ticket, err)
+	}
+	s.count(func(t *Tally) { t.NotOpened++ })
+	return unprotected(status, "request could not be opened"), true
+}
+
+// respond closes an exchange with the target's answer, or where that is longer than a response may be with an error of the target like
+// others. It hands back what is to be sealed.
+func (s *Service) respond(admission sealwax.Admission, nonce, plain []byte) (sealwax.Response, []byte, error) {
+	response, err := s.gateway.Respond(admission.Ticket, admission.Enc, nonce, len(plain))
+	if sealwax.IsRefusal(err, sealwax.WrongLength) {
+		plain = badGateway
+		response, err = s.gateway.Respond(admission.Ticket, admission.Enc, nonce, len(plain))
+	}
+	return response, plain, err
 }
 
 // ask asks the target, or answers the error to seal in its place.

@@ -106,74 +106,17 @@ func TestConcurrentClients(t *testing.T) {
 		s.keys = append(s.keys, gateway.Key{ID: sealwax.KeyID(11 + i), Private: fresh(t, kem), Pairs: pairs})
 	}
 	s.fixture = start(t, gateway.Config{Keys: s.keys, Cap: stressCap, Target: s.target})
-	s.server.Client().Transport.(*http.Transport).MaxIdleConnsPerHost = stressClients
+	// A connection for each request: one that Go's client has opened ahead and kept may be closed by the server's timeout just when it is
+	// taken, and a POST is then not sent again.
+	s.server.Client().Transport.(*http.Transport).DisableKeepAlives = true
 
-	seed := time.Now().UnixNano()
-	t.Logf("seed %d", seed)
-	records := make(chan *record, stressClients)
-	var clients sync.WaitGroup
-	for i := int64(0); i < stressClients; i++ {
-		clients.Add(1)
-		go func(random *rand.Rand) {
-			defer clients.Done()
-			seen := newRecord()
-			s.first(seen)
-			for n := 0; n < stressRequests; n++ {
-				s.one(random, seen)
-			}
-			records <- seen
-		}(rand.New(rand.NewSource(seed + i)))
-	}
-
-	// The operator retires two keys at a third and at two thirds of the way, and looks at the status page all the time.
-	retired := map[sealwax.KeyID]bool{}
-	operator := make(chan struct{})
-	go func() {
-		defer close(operator)
-		for _, retirement := range []struct {
-			after int64
-			id    sealwax.KeyID
-		}{{stressClients * stressRequests / 3, 13}, {stressClients * stressRequests * 2 / 3, 14}} {
-			for atomic.LoadInt64(&s.sent) < retirement.after {
-				if status := s.service.Status(); status.Pending > 128 {
-					t.Errorf("%d pending", status.Pending)
-				}
-				time.Sleep(time.Millisecond)
-			}
-			form := []byte(fmt.Sprintf("key=%d", retirement.id))
-			answer, err := s.send(context.Background(), http.MethodPost, gateway.RetirePath, "application/x-www-form-urlencoded", form)
-			if err != nil || answer.status != 200 {
-				t.Errorf("retire: %d, %v", answer.status, err)
-			}
-			retired[retirement.id] = true
-		}
-	}()
-	clients.Wait()
-	<-operator
+	clients := make(chan *record)
+	go func() { clients <- s.clients(t) }()
+	retired := s.operator(t)
+	saw := <-clients
 	s.server.Close() // waits for every handler
-	close(records)
 
-	saw := newRecord()
-	for seen := range records {
-		add(saw.answered, seen.answered)
-		add(saw.notOpened, seen.notOpened)
-		add(saw.abandoned, seen.abandoned)
-		add(saw.refused, seen.refused)
-		saw.cutOff += seen.cutOff
-	}
-	want := gateway.Status{
-		Cap:        stressCap,
-		LastTicket: sealwax.Ticket(sum(saw.answered) + sum(saw.notOpened) + sum(saw.abandoned)),
-		Tally: gateway.Tally{
-			Answered: sum(saw.answered), NotOpened: sum(saw.notOpened), Abandoned: sum(saw.abandoned), Refused: saw.refused,
-		},
-	}
-	for _, key := range s.keys {
-		want.Keys = append(want.Keys, gateway.KeyStatus{
-			ID: key.ID, KEM: key.Private.KEM(), Retired: retired[key.ID],
-			Count: uint32(saw.answered[key.ID] + saw.notOpened[key.ID] + saw.abandoned[key.ID]),
-		})
-	}
+	want := s.accounted(saw, retired)
 	if got := s.jsonStatus(); !reflect.DeepEqual(got, want) {
 		t.Errorf("the status page has\n%+v, the clients saw\n%+v", got, want)
 	}
@@ -194,6 +137,74 @@ func TestConcurrentClients(t *testing.T) {
 	if sum(saw.notOpened) == 0 || sum(saw.abandoned) == 0 || saw.cutOff == 0 {
 		t.Errorf("%+v", saw)
 	}
+}
+
+// clients runs all clients to their end, and answers what they saw together.
+func (s *stress) clients(t *testing.T) *record {
+	seed := time.Now().UnixNano()
+	t.Logf("seed %d", seed)
+	records := make(chan *record)
+	for i := int64(0); i < stressClients; i++ {
+		go func(random *rand.Rand) {
+			seen := newRecord()
+			s.first(seen)
+			for n := 0; n < stressRequests; n++ {
+				s.one(random, seen)
+			}
+			records <- seen
+		}(rand.New(rand.NewSource(seed + i)))
+	}
+	saw := newRecord()
+	for i := 0; i < stressClients; i++ {
+		seen := <-records
+		add(saw.answered, seen.answered)
+		add(saw.notOpened, seen.notOpened)
+		add(saw.abandoned, seen.abandoned)
+		add(saw.refused, seen.refused)
+		saw.cutOff += seen.cutOff
+	}
+	return saw
+}
+
+// operator retires two keys, at a third and at two thirds of the way, and looks at the status until then. It answers which.
+func (s *stress) operator(t *testing.T) map[sealwax.KeyID]bool {
+	retired := map[sealwax.KeyID]bool{}
+	for _, retirement := range []struct {
+		after int64
+		id    sealwax.KeyID
+	}{{stressClients * stressRequests / 3, 13}, {stressClients * stressRequests * 2 / 3, 14}} {
+		for atomic.LoadInt64(&s.sent) < retirement.after {
+			if status := s.service.Status(); status.Pending > 128 {
+				t.Errorf("%d pending", status.Pending)
+			}
+			time.Sleep(time.Millisecond)
+		}
+		form := []byte(fmt.Sprintf("key=%d", retirement.id))
+		answer, err := s.send(context.Background(), http.MethodPost, gateway.RetirePath, "application/x-www-form-urlencoded", form)
+		if err != nil || answer.status != 200 {
+			t.Errorf("retire: %d, %v", answer.status, err)
+		}
+		retired[retirement.id] = true
+	}
+	return retired
+}
+
+// accounted is the status that the clients can account for.
+func (s *stress) accounted(saw *record, retired map[sealwax.KeyID]bool) gateway.Status {
+	status := gateway.Status{
+		Cap:        stressCap,
+		LastTicket: sealwax.Ticket(sum(saw.answered) + sum(saw.notOpened) + sum(saw.abandoned)),
+		Tally: gateway.Tally{
+			Answered: sum(saw.answered), NotOpened: sum(saw.notOpened), Abandoned: sum(saw.abandoned), Refused: saw.refused,
+		},
+	}
+	for _, key := range s.keys {
+		status.Keys = append(status.Keys, gateway.KeyStatus{
+			ID: key.ID, KEM: key.Private.KEM(), Retired: retired[key.ID],
+			Count: uint32(saw.answered[key.ID] + saw.notOpened[key.ID] + saw.abandoned[key.ID]),
+		})
+	}
+	return status
 }
 
 // first sends a request that waits in the target: with 200 clients, 128 come to the target and the others are refused.

@@ -52,10 +52,13 @@ func run(address string, keyCap uint64, kems []string) error {
 		return fmt.Errorf("%s is no loopback address", address)
 	}
 	fmt.Printf("http://%s\n", listener.Addr())
+	return serve(service.Server(), listener)
+}
 
+// serve serves until the program is told to stop. Pending exchanges then have ten seconds to be answered.
+func serve(server *http.Server, listener net.Listener) error {
 	stop, cancel := signal.NotifyContext(context.Background(), os.Interrupt, syscall.SIGTERM)
 	defer cancel()
-	server := service.Server()
 	ended := make(chan error, 1)
 	go func() { ended <- server.Serve(listener) }()
 	select {
@@ -63,7 +66,6 @@ func run(address string, keyCap uint64, kems []string) error {
 		return err
 	case <-stop.Done():
 	}
-	// Pending exchanges have ten seconds to be answered.
 	last, cancel := context.WithTimeout(context.Background(), 10*time.Second)
 	defer cancel()
 	if err := server.Shutdown(last); err != nil {
