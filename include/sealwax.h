@@ -3,7 +3,8 @@
  *
  * The library reads key lists and requests, admits exchanges, counts key uses, keeps pending exchanges, and says what goes out and in
  * which form. HPKE, ciphers, sockets and random bytes are the host's. Every function of the library is proved to meet its contract
- * (crates/host/src): nothing traps, every call ends, and a refusal changes neither the gateway nor a byte of a lent buffer.
+ * (crates/host/src): nothing traps, every call ends, and a refused call changes neither the gateway nor a byte of a lent buffer. Setup
+ * is apart: it makes the gateway anew, and where it is refused one without keys.
  *
  * Link with libsealwax.a, which ./library makes. The library allocates nothing, keeps nothing between calls and calls nothing but
  * memcpy, memmove and memset.
@@ -206,7 +207,8 @@ typedef struct sealwax_sizes_result {
 
 /*
  * Makes a fresh gateway of a key list and a cap, the uses allowed per key, 1 to 1,000,000,000. Refusals: 15, 17; the gateway is then
- * one without keys, which refuses every request.
+ * one without keys, which refuses every request. What the memory held before is gone either way: to keep a gateway that is in use, set
+ * up another one and change over where that was accepted.
  */
 sealwax_setup_result sealwax_setup(sealwax_gateway *gateway, const uint8_t *list, size_t list_length, uint64_t cap);
 
@@ -231,7 +233,7 @@ sealwax_respond_result sealwax_respond(sealwax_gateway *gateway, uint64_t ticket
                                        const uint8_t *nonce, size_t nonce_length, uint64_t plain_length, uint8_t *salt,
                                        size_t salt_length);
 
-/* Closes an exchange with no reply. Refusals: 11, 12. */
+/* Closes an exchange, asked or opened, with no reply. Refusal: 11. */
 sealwax_outcome sealwax_abandon(sealwax_gateway *gateway, uint64_t ticket);
 
 /* Retires a key: later admissions refuse it, pending exchanges go on. Refusals: 4, 7. */
