@@ -1,18 +1,20 @@
--- What respond's test of lengths tells, and what no refusal of respond tells.
+-- What respond's test of lengths tells, and what no refusal of a call tells.
 -- Assumes nothing.
 use mathlib.Core.Path.{_≡_}
-use mathlib.Core.Bool.{true}
+use mathlib.Core.Bool.{true, false, not}
 use Prim.Native.Nat.{ℕ, _+_, _≤_}
 use native.Mathlib.Omega.{arith}
 use lib.Dec.{ltb}
-use borrow.Author.Tests.{eqb-true, leb-true, ltb-false}
-use Rattle.wire.proofs.Booleans.{either}
+use borrow.Author.Tests.{eqb-true, leb-true, ltb-false, not-false}
+use Rattle.wire.specs.Refusals.{_when_otherwise_}
+use Rattle.wire.proofs.Numbers.{not-refused}
 use Rattle.keylist.proofs.LayoutLaws.{both}
 use Rattle.algorithms.specs.Sizes.{knownKem, knownAead, encLength, responseNonceLength}
 use Rattle.algorithms.proofs.Stated.{size-bounds}
 use Rattle.exchange.specs.declared.Exchange.{Exchange}
-use Rattle.exchange.specs.Exchange.{isFree, isOpened}
-use Rattle.exchange.specs.Steps.{lengthsHold, longestPlain, respondRefusal}
+use Rattle.exchange.specs.declared.Move.{Move}
+use Rattle.exchange.specs.Exchange.{isFree, responseHolds, longestPlain}
+use Rattle.exchange.specs.Steps.{isAllowed, lengthsHold, refusalBy}
 
 -- the lengths that hold, as numbers, and their bounds
 pub record Lengths (enc nonce plain : ℕ) (e : Exchange) : Type 0 where
@@ -22,7 +24,7 @@ pub record Lengths (enc nonce plain : ℕ) (e : Exchange) : Type 0 where
   pub encBound : enc ≤ 133
   pub nonceBound : nonce ≤ 32
 
-pub lengths : (enc nonce plain : ℕ) (e : Exchange) → lengthsHold enc nonce plain e ≡ true → Lengths enc nonce plain e
+pub lengths : (enc nonce plain : ℕ) (e : Exchange) → responseHolds enc nonce plain e ≡ true → Lengths enc nonce plain e
 lengths enc nonce plain e h =
     let ((isKem, isEnc), ((isAead, isNonce), isShort)) =
     both (both {a = knownKem (e .kem)} (λ known. known) (eqb-true enc (encLength (e .kem))))
@@ -35,17 +37,23 @@ lengths enc nonce plain e h =
       nonceBound = omega (arith, size-bounds .nonceBound (e .aead));
     }
 
--- no refusal: the lengths hold, and the buffer has room
-pub respond-accepted : (enc nonce plain room : ℕ) (e : Exchange) → respondRefusal enc nonce plain room e ≡ 0
-    → Lengths enc nonce plain e × (enc + nonce ≤ room)
-unfolding respondRefusal
-respond-accepted enc nonce plain room e h =
-    either (isFree e)
-    (λ f. absurd (omega (arith, rw f at h)))
-    (λ f. either (isOpened e)
-    (λ o. either (lengthsHold enc nonce plain e)
-    (λ l. either (ltb room (enc + nonce))
-    (λ r. absurd (omega (arith, rw (f, o, l, r) at h)))
-    (λ r. (lengths enc nonce plain e l, ltb-false room (enc + nonce) r)))
-    (λ l. absurd (omega (arith, rw (f, o, l) at h))))
-    (λ o. absurd (omega (arith, rw (f, o) at h))))
+-- no refusal: the exchange is pending, the call is allowed, its lengths hold, and the buffer has room
+pub record Accepted (asks : Move) (enc nonce room : ℕ) (e : Exchange) : Type 0 where
+  pub pending : isFree e ≡ false
+  pub isAllowed : isAllowed asks e ≡ true
+  pub lengthsHold : lengthsHold asks enc nonce e ≡ true
+  pub fits : enc + nonce ≤ room
+
+pub accepted-by : (asks : Move) (enc nonce room : ℕ) (e : Exchange) → refusalBy asks enc nonce room e ≡ 0 → Accepted asks enc nonce room e
+unfolding refusalBy
+accepted-by asks enc nonce room e h =
+    let (pending, h12) = not-refused 10 (isFree e) _ h in
+    let (allowed, h13) = not-refused 11 (not (isAllowed asks e)) _ h12 in
+    let (held, h14) = not-refused 12 (not (lengthsHold asks enc nonce e)) _ h13 in
+    let (fits, none) = not-refused 13 (ltb room (enc + nonce)) _ h14 in
+    record {
+      pending = pending;
+      isAllowed = not-false (isAllowed asks e) allowed;
+      lengthsHold = not-false (lengthsHold asks enc nonce e) held;
+      fits = ltb-false room (enc + nonce) fits;
+    }

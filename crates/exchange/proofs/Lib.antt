@@ -1,4 +1,3 @@
 -- Laws that belong to no one function; other crates cite them.
-pub mod Answers
 pub mod Lengths
 pub mod Moves

@@ -2,7 +2,7 @@
 use Prim.Native.Nat.{ℕ, _+_}
 use mathlib.Core.Bool.{Bool, not}
 use mathlib.Core.List.{List}
-use lib.Dec.{eqb}
+use lib.Dec.{eqb, leb}
 use lib.ListN.{getD}
 use Rattle.wire.specs.Tests.{_and_}
 use Rattle.wire.specs.Search.{firstPlace}
@@ -87,3 +87,11 @@ hasEnc length e = knownKem (e .kem) and eqb length (encLength (e .kem))
 -- the length is that of the response nonce, max(Nn, Nk) of the exchange's AEAD
 abbrev pub hasNonce : ℕ → Exchange → Bool
 hasNonce length e = knownAead (e .aead) and eqb length (responseNonceLength (e .aead))
+
+-- the most bytes of a plain response
+abbrev pub longestPlain : ℕ
+longestPlain = 65536
+
+-- the lengths of enc, nonce and plain response that respond asks for
+abbrev pub responseHolds : ℕ → ℕ → ℕ → Exchange → Bool
+responseHolds encSize nonceSize plain e = hasEnc encSize e and hasNonce nonceSize e and leb plain longestPlain

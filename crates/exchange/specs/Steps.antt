@@ -2,94 +2,111 @@
 use Prim.Native.Nat.{ℕ, zero, suc, _+_}
 use mathlib.Core.Bool.{Bool, true, false, not}
 use mathlib.Core.List.{List, [], _++_}
-use lib.Dec.{leb, ltb}
+use lib.Dec.{ltb}
 use lib.ListN.{length}
-use Rattle.wire.specs.Tests.{_and_, _or_}
+use Rattle.wire.specs.Tests.{_or_}
 use Rattle.wire.specs.Refusals.{_when_otherwise_, refused, unlessRefused, written}
 use Rattle.algorithms.specs.Sizes.{tagLength}
-use Rattle.exchange.specs.Exchange.{free, isFree, isAsked, isOpened, opened, hasOpenedLength, hasEnc, hasNonce}
 use Rattle.exchange.specs.declared.Exchange.{Exchange}
-use Rattle.exchange.specs.declared.OpenAnswer.{OpenAnswer}
-use Rattle.exchange.specs.declared.RespondAnswer.{RespondAnswer}
-use Rattle.exchange.specs.declared.AbandonAnswer.{AbandonAnswer}
+use Rattle.exchange.specs.declared.Move.{Move}
+use Rattle.exchange.specs.declared.StepAnswer.{StepAnswer}
+use Rattle.exchange.specs.Exchange.{free, isFree, isAsked, isOpened, opened, hasOpenedLength, responseHolds}
 
--- the most bytes of a plain response
-abbrev pub longestPlain : ℕ
-longestPlain = 65536
+-- a call on a ticket: what it asks of the exchange, and the bytes that it brings: enc, nonce and salt buffer, all empty but for respond
+pub record Step : Type 0 where
+  pub asks : Move
+  pub enc : List ℕ
+  pub nonce : List ℕ
+  pub salt : List ℕ
 
--- a call on a ticket: open result (success or failure, n), respond (enc, nonce, plain length, salt buffer), abandon
-pub data Step : Type 0 where
-  openResult : (success : Bool) (n : ℕ) → Step
-  respond : (enc nonce : List ℕ) (plain : ℕ) (salt : List ℕ) → Step
-  abandon : Step
+abbrev pub step : Move → List ℕ → List ℕ → List ℕ → Step
+step asks enc nonce salt = record { asks = asks; enc = enc; nonce = nonce; salt = salt }
 
--- the lengths that respond asks for
-abbrev pub lengthsHold : ℕ → ℕ → ℕ → Exchange → Bool
-lengthsHold encSize nonceSize plain e = hasEnc encSize e and hasNonce nonceSize e and leb plain longestPlain
+-- a call that brings no bytes
+abbrev pub bare : Move → Step
+bare asks = step asks [] [] []
 
--- 01, "Order", ticket calls, for respond: 11, 12, 13, 14; 0: no refusal. It goes by the lengths of enc, nonce, plain response and
--- salt buffer.
-unfoldable pub respondRefusal : ℕ → ℕ → ℕ → ℕ → Exchange → ℕ
-respondRefusal encSize nonceSize plain room e =
+-- open result (success or failure, n): "Failure ignores n"
+abbrev pub openResult : Bool → ℕ → Step
+openResult true n = bare (Move.Open n)
+openResult false n = bare Move.Fail
+
+-- respond (enc, nonce, plain length, salt buffer)
+abbrev pub respond : List ℕ → List ℕ → ℕ → List ℕ → Step
+respond enc nonce plain salt = step (Move.Respond plain) enc nonce salt
+
+abbrev pub abandon : Step
+abandon = bare Move.Abandon
+
+-- "Only when asked"; "Only when opened"; "from asked or opened"
+abbrev pub isAllowed : Move → Exchange → Bool
+isAllowed (Move.Open n) e = isAsked e
+isAllowed Move.Fail e = isAsked e
+isAllowed (Move.Respond plain) e = isOpened e
+isAllowed Move.Abandon e = isAsked e or isOpened e
+
+-- the lengths that it brings, with those of enc and nonce, are the exchange's
+abbrev pub lengthsHold : Move → ℕ → ℕ → Exchange → Bool
+lengthsHold (Move.Open n) encSize nonceSize e = hasOpenedLength n e
+lengthsHold Move.Fail encSize nonceSize e = true
+lengthsHold (Move.Respond plain) encSize nonceSize e = responseHolds encSize nonceSize plain e
+lengthsHold Move.Abandon encSize nonceSize e = true
+
+-- 01, "Order", ticket calls: 11, 12, 13, 14; 0: no refusal. Of the bytes that a call brings the lengths decide
+unfoldable pub refusalBy : Move → ℕ → ℕ → ℕ → Exchange → ℕ
+refusalBy asks encSize nonceSize room e =
     11 when isFree e otherwise
-    12 when not (isOpened e) otherwise
-    13 when not (lengthsHold encSize nonceSize plain e) otherwise
+    12 when not (isAllowed asks e) otherwise
+    13 when not (lengthsHold asks encSize nonceSize e) otherwise
     14 when ltb room (encSize + nonceSize) otherwise
     0
 
--- 01, "Order", ticket calls: 11, 12, 13, 14
-unfoldable pub refusal : Step → Exchange → ℕ
-refusal (openResult success n) e =
-    11 when isFree e otherwise
-    12 when not (isAsked e) otherwise
-    13 when success and not (hasOpenedLength n e) otherwise
-    0
-refusal (respond enc nonce plain salt) e = respondRefusal (length enc) (length nonce) plain (length salt) e
-refusal abandon e =
-    11 when isFree e otherwise
-    12 when not (isAsked e or isOpened e) otherwise
-    0
+abbrev pub refusal : Step → Exchange → ℕ
+refusal s e = refusalBy (s .asks) (length (s .enc)) (length (s .nonce)) (length (s .salt)) e
 
 -- what an accepted call makes of the exchange: opened, or closed
-unfoldable pub next : Step → Exchange → Exchange
-next (openResult true n) e = opened e
-next (openResult false n) e = free
-next (respond enc nonce plain salt) e = free
-next abandon e = free
+abbrev pub next : Move → Exchange → Exchange
+next (Move.Open n) e = opened e
+next Move.Fail e = free
+next (Move.Respond plain) e = free
+next Move.Abandon e = free
 
 -- what a call leaves of the exchange
 abbrev pub after : Step → Exchange → Exchange
-after step e = unlessRefused (refusal step e) (next step e) e
+after s e = unlessRefused (refusal s e) (next (s .asks) e) e
 
--- the answers, by the refusal number: opened, or on failure unprotected 422
-abbrev pub openAnswer : ℕ → Bool → OpenAnswer
-openAnswer zero true = OpenAnswer.Opened
-openAnswer zero false = OpenAnswer.Failed 422
-openAnswer (suc n) success = OpenAnswer.Refused (refused (suc n))
+-- what an accepted call answers: opened, or on failure unprotected 422; sealed, outer status 200, and the encapsulated length: nonce +
+-- plain length + 16
+abbrev pub accepted : Move → ℕ → StepAnswer
+accepted (Move.Open n) nonceSize = StepAnswer.Opened
+accepted Move.Fail nonceSize = StepAnswer.Failed 422
+accepted (Move.Respond plain) nonceSize = StepAnswer.Sealed (record { status = 200; length = nonceSize + plain + tagLength })
+accepted Move.Abandon nonceSize = StepAnswer.Abandoned
 
--- sealed, outer status 200, and the encapsulated length: nonce + plain length + 16
-abbrev pub respondAnswer : ℕ → ℕ → ℕ → RespondAnswer
-respondAnswer zero nonce plain = RespondAnswer.Sealed (record { status = 200; length = nonce + plain + tagLength })
-respondAnswer (suc n) nonce plain = RespondAnswer.Refused (refused (suc n))
+-- the answer, by the refusal number
+abbrev pub answerBy : ℕ → StepAnswer → StepAnswer
+answerBy zero a = a
+answerBy (suc n) a = StepAnswer.Refused (refused (suc n))
 
-abbrev pub abandonAnswer : ℕ → AbandonAnswer
-abandonAnswer zero = AbandonAnswer.Abandoned
-abandonAnswer (suc n) = AbandonAnswer.Refused (refused (suc n))
+abbrev pub answer : Step → Exchange → StepAnswer
+answer s e = answerBy (refusal s e) (accepted (s .asks) (length (s .nonce)))
 
--- an answer of one of the three
-pub data StepAnswer : Type 0 where
-  ofOpen : OpenAnswer → StepAnswer
-  ofRespond : RespondAnswer → StepAnswer
-  ofAbandon : AbandonAnswer → StepAnswer
+-- the salt buffer after the call: enc, then nonce, at its front
+abbrev pub buffer : Step → Exchange → List ℕ
+buffer s e = written (refusal s e) (s .enc ++ s .nonce) (s .salt)
 
-unfoldable pub answer : Step → Exchange → StepAnswer
-answer (openResult success n) e = ofOpen (openAnswer (refusal (openResult success n) e) success)
-answer (respond enc nonce plain salt) e =
-    ofRespond (respondAnswer (refusal (respond enc nonce plain salt) e) (length nonce) plain)
-answer abandon e = ofAbandon (abandonAnswer (refusal abandon e))
+-- 01's refusal number of an answer; 0: the call is accepted
+unfoldable pub stepNumber : StepAnswer → ℕ
+stepNumber StepAnswer.Opened = 0
+stepNumber (StepAnswer.Failed status) = 0
+stepNumber (StepAnswer.Sealed s) = 0
+stepNumber StepAnswer.Abandoned = 0
+stepNumber (StepAnswer.Refused r) = r .number
 
--- the salt buffer after the call: enc, then nonce, at its front; the other calls lend no buffer
-unfoldable pub buffer : Step → Exchange → List ℕ
-buffer (openResult success n) e = []
-buffer (respond enc nonce plain salt) e = written (refusal (respond enc nonce plain salt) e) (enc ++ nonce) salt
-buffer abandon e = []
+-- the status of an answer that goes out unprotected, that of a failed opening; 0 where none does
+unfoldable pub stepUnprotected : StepAnswer → ℕ
+stepUnprotected StepAnswer.Opened = 0
+stepUnprotected (StepAnswer.Failed status) = status
+stepUnprotected (StepAnswer.Sealed s) = 0
+stepUnprotected StepAnswer.Abandoned = 0
+stepUnprotected (StepAnswer.Refused r) = 0

@@ -1,9 +1,10 @@
 // An exchange (01, "An exchange, step by step"): a value that moves from asked to opened to closed. Its methods take it and hand it
 // back in its next state, with the answer.
 ghost use mathlib.Core.Path.{_≡_};
-ghost use lib.ListN.{length};
-ghost use Rattle.exchange.specs.Exchange.{free, isFree, asked, opened, hasOpenedLength};
-ghost use Rattle.exchange.specs.Steps.{openResult, respond, abandon, refusal, after, openAnswer, respondAnswer, abandonAnswer, buffer, respondRefusal, lengthsHold};
+ghost use mathlib.Core.Bool.{true};
+ghost use Rattle.wire.specs.Tests.{_or_};
+ghost use Rattle.exchange.specs.Exchange.{free, isFree, isAsked, isOpened, asked, opened, hasOpenedLength, responseHolds};
+ghost use Rattle.exchange.specs.Steps.{step, isAllowed, lengthsHold, refusalBy, next, after, accepted, answer, buffer};
 use algorithms::Aead;
 use algorithms::Kem;
 use algorithms::Size;
@@ -48,11 +49,13 @@ pub const UNPROCESSABLE_CONTENT: u16 = 422;
 
 pub const OK: u16 = 200;
 
-// The answer of open result: opened, or failed with the status of the unprotected reply.
-pub enum OpenAnswer {
-    Opened,
-    Failed(u16),
-    Refused(Refusal),
+// What a call on a ticket asks of the exchange: open result, with n where the host could open the request; respond, with the length of the
+// plain response; abandon.
+pub enum Move {
+    Open(u64),
+    Fail,
+    Respond(u64),
+    Abandon,
 }
 
 // A response to be sealed: the outer status and the length of the encapsulated response.
@@ -61,30 +64,19 @@ pub struct Sealed {
     pub length: u64,
 }
 
-pub enum RespondAnswer {
+// The answer of a call on a ticket. A failed opening has the status of the unprotected reply.
+pub enum StepAnswer {
+    Opened,
+    Failed(u16),
     Sealed(Sealed),
-    Refused(Refusal),
-}
-
-pub enum AbandonAnswer {
     Abandoned,
     Refused(Refusal),
 }
 
 // The exchange in its next state, with the answer.
-pub struct OpenMove {
+pub struct Moved {
     pub exchange: Exchange,
-    pub answer: OpenAnswer,
-}
-
-pub struct RespondMove {
-    pub exchange: Exchange,
-    pub answer: RespondAnswer,
-}
-
-pub struct AbandonMove {
-    pub exchange: Exchange,
-    pub answer: AbandonAnswer,
+    pub answer: StepAnswer,
 }
 
 impl Exchange {
@@ -109,74 +101,25 @@ impl Exchange {
         self.ticket.0 == 0
     }
 
-    // Open result: opened where the host could open n bytes, closed where it failed.
-    pub fn open_result(self, success: bool, n: u64) -> OpenMove
-        ensures answer { λ r. ⌜ r .answer ≡ openAnswer (refusal (openResult success n) self) success ⌝ }
-        ensures next { λ r. ⌜ r .exchange ≡ after (openResult success n) self ⌝ }
+    // A call on the ticket, with the bytes that it brings; only respond brings any. Where it is accepted, enc and nonce are written at
+    // the front of the salt buffer.
+    pub fn moved(self, asks: Move, enc: &[u8], nonce: &[u8], salt: &mut [u8]) -> Moved
+        ensures answer { λ r. ⌜ r .answer ≡ answer (step asks (now (enc .entry)) (now (nonce .entry)) (now (salt .entry))) self ⌝ }
+        ensures next { λ r. ⌜ r .exchange ≡ after (step asks (now (enc .entry)) (now (nonce .entry)) (now (salt .entry))) self ⌝ }
+        ensures buffer { λ r. ⌜ now (salt .exit) ≡ buffer (step asks (now (enc .entry)) (now (nonce .entry)) (now (salt .entry))) self ⌝ }
     {
-        let number = self.open_refusal(success, n);
+        let number = self.refusal(asks, enc.len(), nonce.len(), salt.len());
         if number != 0 {
-            return OpenMove {
+            return Moved {
                 exchange: self,
-                answer: OpenAnswer::Refused(Refusal::of(number)),
-            };
-        }
-        if success {
-            OpenMove {
-                exchange: self.opened(),
-                answer: OpenAnswer::Opened,
-            }
-        } else {
-            OpenMove {
-                exchange: Exchange::free(),
-                answer: OpenAnswer::Failed(UNPROCESSABLE_CONTENT),
-            }
-        }
-    }
-
-    // Respond: writes the salt at the front of its buffer and closes; the answer is to be sealed.
-    pub fn respond(self, enc: &[u8], nonce: &[u8], plain: u64, salt: &mut [u8]) -> RespondMove
-        ensures answer { λ r. ⌜ r .answer ≡ respondAnswer
-            (refusal (respond (now (enc .entry)) (now (nonce .entry)) plain (now (salt .entry))) self)
-            (length (now (nonce .entry))) plain ⌝ }
-        ensures next { λ r. ⌜ r .exchange
-            ≡ after (respond (now (enc .entry)) (now (nonce .entry)) plain (now (salt .entry))) self ⌝ }
-        ensures buffer { λ r. ⌜ now (salt .exit)
-            ≡ buffer (respond (now (enc .entry)) (now (nonce .entry)) plain (now (salt .entry))) self ⌝ }
-    {
-        let number = self.respond_refusal(enc.len(), nonce.len(), plain, salt.len());
-        if number != 0 {
-            return RespondMove {
-                exchange: self,
-                answer: RespondAnswer::Refused(Refusal::of(number)),
+                answer: StepAnswer::Refused(Refusal::of(number)),
             };
         }
         overwrite(salt, 0, enc);
         overwrite(salt, enc.len(), nonce);
-        RespondMove {
-            exchange: Exchange::free(),
-            answer: RespondAnswer::Sealed(Sealed {
-                status: OK,
-                length: (nonce.len() as u64) + plain + (Aead::TAG_LENGTH as u64),
-            }),
-        }
-    }
-
-    // Abandon: closes; no reply is sent.
-    pub fn abandon(self) -> AbandonMove
-        ensures answer { λ r. ⌜ r .answer ≡ abandonAnswer (refusal abandon self) ⌝ }
-        ensures next { λ r. ⌜ r .exchange ≡ after abandon self ⌝ }
-    {
-        let number = self.abandon_refusal();
-        if number != 0 {
-            return AbandonMove {
-                exchange: self,
-                answer: AbandonAnswer::Refused(Refusal::of(number)),
-            };
-        }
-        AbandonMove {
-            exchange: Exchange::free(),
-            answer: AbandonAnswer::Abandoned,
+        Moved {
+            exchange: self.next(asks),
+            answer: self.accepted(asks, enc.len(), nonce.len()),
         }
     }
 
@@ -212,57 +155,99 @@ impl Exchange {
         }
     }
 
-    // The refusals of the three calls on a ticket, each the first number that applies, 0 where none does.
-    fn open_refusal(self, success: bool, n: u64) -> u8
-        ensures { λ r. ⌜ r ≡ refusal (openResult success n) self ⌝ }
+    // The first refusal of a call, by the lengths of what it brings; 0 where there is none.
+    fn refusal(self, asks: Move, enc: usize, nonce: usize, room: usize) -> u8
+        ensures { λ r. ⌜ r ≡ refusalBy asks enc nonce room self ⌝ }
     {
         if self.is_free() {
             return Refusal::NOT_PENDING;
         }
-        if self.phase.0 != Phase::ASKED {
+        if !self.allows(asks) {
             return Refusal::STEP_NOT_ALLOWED;
         }
-        if !success {
-            return 0;
-        }
-        if self.has_opened_length(n) {
-            0
-        } else {
-            Refusal::WRONG_LENGTH
-        }
-    }
-
-    fn respond_refusal(self, enc: usize, nonce: usize, plain: u64, room: usize) -> u8
-        ensures { λ r. ⌜ r ≡ respondRefusal enc nonce plain room self ⌝ }
-    {
-        if self.is_free() {
-            return Refusal::NOT_PENDING;
-        }
-        if self.phase.0 != Phase::OPENED {
-            return Refusal::STEP_NOT_ALLOWED;
-        }
-        if !self.lengths_hold(enc, nonce, plain) {
+        if !self.lengths_hold(asks, enc, nonce) {
             return Refusal::WRONG_LENGTH;
         }
-        if room < enc + nonce {
+        if room < enc {
+            return Refusal::NO_ROOM;
+        }
+        if room - enc < nonce {
             return Refusal::NO_ROOM;
         }
         0
     }
 
-    fn abandon_refusal(self) -> u8
-        ensures { λ r. ⌜ r ≡ refusal abandon self ⌝ }
+    // The call is allowed in the exchange's state.
+    fn allows(self, asks: Move) -> bool
+        ensures { λ r. ⌜ r ≡ isAllowed asks self ⌝ }
     {
-        if self.is_free() {
-            return Refusal::NOT_PENDING;
+        match asks {
+            Move::Open(_) => self.is_asked(),
+            Move::Fail => self.is_asked(),
+            Move::Respond(_) => self.is_opened(),
+            Move::Abandon => self.is_asked_or_opened(),
         }
-        if self.phase.0 == Phase::ASKED {
-            return 0;
+    }
+
+    fn is_asked(self) -> bool
+        ensures { λ r. ⌜ r ≡ isAsked self ⌝ }
+    {
+        self.phase.0 == Phase::ASKED
+    }
+
+    fn is_opened(self) -> bool
+        ensures { λ r. ⌜ r ≡ isOpened self ⌝ }
+    {
+        self.phase.0 == Phase::OPENED
+    }
+
+    fn is_asked_or_opened(self) -> bool
+        ensures { λ r. ⌜ r ≡ (isAsked self or isOpened self) ⌝ }
+    {
+        if self.is_asked() {
+            return true;
         }
-        if self.phase.0 == Phase::OPENED {
-            return 0;
+        self.is_opened()
+    }
+
+    // The lengths that the call brings are those of the exchange.
+    fn lengths_hold(self, asks: Move, enc: usize, nonce: usize) -> bool
+        ensures { λ r. ⌜ r ≡ lengthsHold asks enc nonce self ⌝ }
+    {
+        match asks {
+            Move::Open(n) => self.has_opened_length(n),
+            Move::Fail => true,
+            Move::Respond(plain) => self.response_holds(enc, nonce, plain),
+            Move::Abandon => true,
         }
-        Refusal::STEP_NOT_ALLOWED
+    }
+
+    // What an accepted call makes of the exchange.
+    fn next(self, asks: Move) -> Self
+        ensures { λ r. ⌜ r ≡ next asks self ⌝ }
+    {
+        match asks {
+            Move::Open(_) => self.opened(),
+            Move::Fail => Exchange::free(),
+            Move::Respond(_) => Exchange::free(),
+            Move::Abandon => Exchange::free(),
+        }
+    }
+
+    // What an accepted call answers. Its lengths hold, so that their sum fits.
+    fn accepted(self, asks: Move, enc: usize, nonce: usize) -> StepAnswer
+        requires { ⌜ lengthsHold asks enc nonce self ≡ true ⌝ }
+        ensures { λ r. ⌜ r ≡ accepted asks nonce ⌝ }
+    {
+        match asks {
+            Move::Open(_) => StepAnswer::Opened,
+            Move::Fail => StepAnswer::Failed(UNPROCESSABLE_CONTENT),
+            Move::Respond(plain) => StepAnswer::Sealed(Sealed {
+                status: OK,
+                length: (nonce as u64) + plain + (Aead::TAG_LENGTH as u64),
+            }),
+            Move::Abandon => StepAnswer::Abandoned,
+        }
     }
 
     // n = ciphertext length − 16
@@ -278,8 +263,8 @@ impl Exchange {
     }
 
     // The lengths of enc and nonce are those of the exchange's KEM and AEAD, and the plain response is not too long.
-    fn lengths_hold(self, enc: usize, nonce: usize, plain: u64) -> bool
-        ensures { λ r. ⌜ r ≡ lengthsHold enc nonce plain self ⌝ }
+    fn response_holds(self, enc: usize, nonce: usize, plain: u64) -> bool
+        ensures { λ r. ⌜ r ≡ responseHolds enc nonce plain self ⌝ }
     {
         let Size::Bytes(enc_length) = Kem(self.kem).enc_length() else {
             return false;

@@ -14,7 +14,8 @@ use Rattle.wire.proofs.Booleans.{either, and-false, true-or-false}
 use Rattle.wire.proofs.Matches.{first-at, first-none}
 use Rattle.exchange.specs.declared.Exchange.{Exchange}
 use Rattle.exchange.specs.Exchange.{free, isFree, hasTicket, exchangeOf}
-use Rattle.exchange.specs.Steps.{Step, StepAnswer, after, answer}
+use Rattle.exchange.specs.declared.StepAnswer.{StepAnswer}
+use Rattle.exchange.specs.Steps.{Step, after, answer}
 use Rattle.gateway.specs.declared.Gateway.{Gateway}
 use Rattle.gateway.specs.declared.change.Change.{Change}
 use Rattle.gateway.specs.Gateway.{tableSize, pendingIn, withExchange}

@@ -4,12 +4,10 @@ use Prim.Native.Nat.{ℕ}
 use mathlib.Core.List.{List, []}
 use lib.ListN.{length}
 use Rattle.wire.specs.Refusals.{unlessRefused, written}
-use Rattle.exchange.specs.declared.OpenAnswer.{OpenAnswer}
-use Rattle.exchange.specs.declared.RespondAnswer.{RespondAnswer}
-use Rattle.exchange.specs.declared.AbandonAnswer.{AbandonAnswer}
+use Rattle.exchange.specs.declared.StepAnswer.{StepAnswer}
 use Rattle.request.specs.Request.{infoOf}
 use Rattle.exchange.specs.Exchange.{exchangeOf}
-use Rattle.exchange.specs.Steps.{Step, StepAnswer, ofOpen, ofRespond, ofAbandon, answer, buffer}
+use Rattle.exchange.specs.Steps.{Step, answer, buffer, stepNumber, stepUnprotected}
 use Rattle.keys.specs.Keys.{placeOfKey, retireRefusal}
 use Rattle.keys.specs.Stored.{keysOf}
 use Rattle.gateway.specs.declared.Gateway.{Gateway}
@@ -38,13 +36,7 @@ number (ofAdmit (AdmitAnswer.Refused r)) = r .number
 number (ofAdmit (AdmitAnswer.Admitted a)) = 0
 number (ofRetire (RetireAnswer.Refused r)) = r .number
 number (ofRetire RetireAnswer.Retired) = 0
-number (ofStep (ofOpen (OpenAnswer.Refused r))) = r .number
-number (ofStep (ofOpen OpenAnswer.Opened)) = 0
-number (ofStep (ofOpen (OpenAnswer.Failed status))) = 0
-number (ofStep (ofRespond (RespondAnswer.Refused r))) = r .number
-number (ofStep (ofRespond (RespondAnswer.Sealed s))) = 0
-number (ofStep (ofAbandon (AbandonAnswer.Refused r))) = r .number
-number (ofStep (ofAbandon AbandonAnswer.Abandoned)) = 0
+number (ofStep a) = stepNumber a
 number (ofReport r) = 0
 
 -- the status of an answer that goes out unprotected; 0 where none does
@@ -52,11 +44,7 @@ unfoldable pub unprotectedStatus : Answer → ℕ
 unprotectedStatus (ofAdmit (AdmitAnswer.Refused r)) = r .status
 unprotectedStatus (ofAdmit (AdmitAnswer.Admitted a)) = 0
 unprotectedStatus (ofRetire r) = 0
-unprotectedStatus (ofStep (ofOpen (OpenAnswer.Failed status))) = status
-unprotectedStatus (ofStep (ofOpen OpenAnswer.Opened)) = 0
-unprotectedStatus (ofStep (ofOpen (OpenAnswer.Refused r))) = 0
-unprotectedStatus (ofStep (ofRespond r)) = 0
-unprotectedStatus (ofStep (ofAbandon r)) = 0
+unprotectedStatus (ofStep a) = stepUnprotected a
 unprotectedStatus (ofReport r) = 0
 
 -- what a call gives: its answer, its buffer's bytes after it (none where it lends none), and the state that it hands back

@@ -1,13 +1,16 @@
 // What a call changes of a gateway. The calls compute it and leave the gateway as it is, so that who holds the gateway in its own
 // memory writes only what changes.
 ghost use mathlib.Core.Path.{_≡_};
+ghost use lib.ListN.{set};
 ghost use Rattle.gateway.specs.Gateway.{withExchange};
 ghost use Rattle.gateway.specs.Change.{changed, Fits};
 use crate::Gateway;
 use crate::table::TABLE_SIZE;
 use exchange::Exchange;
 use exchange::Ticket;
+use keylist::check::MOST_CONFIGURATIONS;
 use keys::KeyState;
+use keys::Keys;
 
 // The last ticket, a key with its place, and an exchange with its place in the table. Where nothing changes they are what is there.
 pub struct Change {
@@ -48,21 +51,47 @@ pub(crate) fn exchange_at(gateway: Gateway, place: usize, exchange: Exchange) ->
     change
 }
 
-// The gateway after a change.
-pub(crate) fn put(gateway: Gateway, change: Change) -> Gateway
-    requires { ⌜ Fits change ⌝ }
+// The gateway after a change; what has no place in it is left out.
+pub fn put(gateway: Gateway, change: Change) -> Gateway
     ensures { λ r. ⌜ r ≡ changed change gateway ⌝ }
 {
     let last_ticket = change.last_ticket;
-    let key_place = change.key_place;
     let key = change.key;
-    let place = change.place;
     let exchange = change.exchange;
-    let mut keys = gateway.keys;
-    keys.list[key_place] = key;
-    let mut next = gateway;
-    next.last_ticket = last_ticket;
-    next.keys = keys;
-    next.table[place] = exchange;
+    let keys = gateway.keys;
+    let keys = with_key(keys, change.key_place, key);
+    let table = gateway.table;
+    let table = with_exchange(table, change.place, exchange);
+    Gateway {
+        last_ticket,
+        cap: gateway.cap,
+        keys,
+        table,
+    }
+}
+
+fn with_key(keys: Keys, place: usize, key: KeyState) -> Keys
+    ensures { λ r. ⌜ r ≡ record { list = set (keys .list) place key; count = keys .count } ⌝ }
+{
+    let mut next = keys;
+    if MOST_CONFIGURATIONS <= place {
+        return next;
+    }
+    next.list[place] = key;
+    next
+}
+
+fn with_exchange(
+    table: [Exchange; TABLE_SIZE],
+    place: usize,
+    exchange: Exchange,
+) -> [Exchange; TABLE_SIZE]
+    ensures { λ r. ⌜ r ≡ set table place exchange ⌝ }
+{
+    let mut next = table;
+    if TABLE_SIZE <= place {
+        return next;
+    }
+    next[place] = exchange;
     next
 }

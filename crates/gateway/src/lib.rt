@@ -1,8 +1,8 @@
-// The gateway (01, "What the box does"): setup and the six calls. Each call takes the gateway and hands it back with the answer; a
-// refusal hands it back as it was. Every entry has an answer for every gateway and every argument.
+// The gateway (01, "What the box does"): setup and the six calls. Each call takes the gateway and answers what changes of it, with its
+// own answer; a refusal changes nothing. Every entry has an answer for every gateway and every argument.
 ghost use mathlib.Core.Path.{_≡_};
 ghost use mathlib.Core.List.{[]};
-ghost use Rattle.exchange.specs.Steps.{openResult, respond, abandon, ofOpen, ofRespond, ofAbandon};
+ghost use Rattle.exchange.specs.Steps.{step, bare};
 ghost use Rattle.keys.specs.Stored.{storedKeys};
 ghost use Rattle.gateway.specs.declared.SetupAnswer.{SetupAnswer};
 ghost use Rattle.gateway.specs.Registry.{setup, setupAnswer};
@@ -15,15 +15,13 @@ use crate::admission::next_ticket;
 use crate::change::Change;
 use crate::change::exchange_at;
 use crate::change::nothing;
-use crate::change::put;
 use crate::table::TABLE_SIZE;
 use crate::table::count_pending;
 use crate::table::find;
 use crate::table::free_place;
-use exchange::AbandonAnswer;
 use exchange::Exchange;
-use exchange::OpenAnswer;
-use exchange::RespondAnswer;
+use exchange::Move;
+use exchange::StepAnswer;
 use exchange::Ticket;
 use keylist::Checked;
 use keylist::KeyId;
@@ -79,55 +77,20 @@ pub struct AdmitChange {
     pub answer: AdmitAnswer,
 }
 
-pub struct OpenChange {
-    pub change: Change,
-    pub answer: OpenAnswer,
-}
-
-pub struct RespondChange {
-    pub change: Change,
-    pub answer: RespondAnswer,
-}
-
-pub struct AbandonChange {
-    pub change: Change,
-    pub answer: AbandonAnswer,
-}
-
 pub struct RetireChange {
     pub change: Change,
     pub answer: RetireAnswer,
 }
 
-// The gateway after a call, with the answer.
+pub struct StepChange {
+    pub change: Change,
+    pub answer: StepAnswer,
+}
+
+// The gateway after setup, with the answer.
 pub struct AfterSetup {
     pub gateway: Gateway,
     pub answer: SetupAnswer,
-}
-
-pub struct AfterAdmit {
-    pub gateway: Gateway,
-    pub answer: AdmitAnswer,
-}
-
-pub struct AfterOpen {
-    pub gateway: Gateway,
-    pub answer: OpenAnswer,
-}
-
-pub struct AfterRespond {
-    pub gateway: Gateway,
-    pub answer: RespondAnswer,
-}
-
-pub struct AfterAbandon {
-    pub gateway: Gateway,
-    pub answer: AbandonAnswer,
-}
-
-pub struct AfterRetire {
-    pub gateway: Gateway,
-    pub answer: RetireAnswer,
 }
 
 impl Gateway {
@@ -157,22 +120,7 @@ impl Gateway {
     }
 
     // Admit: counts the use, gives the next ticket and writes info at the front of its buffer.
-    pub fn admit(self, request: &[u8], info: &mut [u8]) -> AfterAdmit
-        ensures gateway { λ r. ⌜ r .gateway ≡ gatewayDoes self (admit (now (request .entry)) (now (info .entry))) .state ⌝ }
-        ensures answer { λ r. ⌜ ofAdmit (r .answer) ≡ gatewayDoes self (admit (now (request .entry)) (now (info .entry))) .answer ⌝ }
-        ensures buffer { λ r. ⌜ now (info .exit) ≡ gatewayDoes self (admit (now (request .entry)) (now (info .entry))) .buffer ⌝ }
-    {
-        let done = self.admit_change(request, info);
-        let change = done.change;
-        let answer = done.answer;
-        AfterAdmit {
-            gateway: put(self, change),
-            answer,
-        }
-    }
-
-    // What admit changes, and its answer.
-    pub fn admit_change(self, request: &[u8], info: &mut [u8]) -> AdmitChange
+    pub fn admit(self, request: &[u8], info: &mut [u8]) -> AdmitChange
         ensures fits { λ r. ⌜ Fits (r .change) ⌝ }
         ensures gateway { λ r. ⌜ changed (r .change) self ≡ gatewayDoes self (admit (now (request .entry)) (now (info .entry))) .state ⌝ }
         ensures answer { λ r. ⌜ ofAdmit (r .answer) ≡ gatewayDoes self (admit (now (request .entry)) (now (info .entry))) .answer ⌝ }
@@ -210,140 +158,47 @@ impl Gateway {
         }
     }
 
-    // Open result: opened, or on failure closed with the unprotected status.
-    pub fn open_result(self, ticket: Ticket, success: bool, n: u64) -> AfterOpen
-        ensures gateway { λ r. ⌜ r .gateway ≡ gatewayDoes self (onTicket (ticket .0) (openResult success n)) .state ⌝ }
-        ensures answer { λ r. ⌜ ofStep (ofOpen (r .answer)) ≡ gatewayDoes self (onTicket (ticket .0) (openResult success n)) .answer ⌝ }
-    {
-        let done = self.open_change(ticket, success, n);
-        let change = done.change;
-        let answer = done.answer;
-        AfterOpen {
-            gateway: put(self, change),
-            answer,
-        }
-    }
-
-    // What open result changes, and its answer.
-    pub fn open_change(self, ticket: Ticket, success: bool, n: u64) -> OpenChange
+    // A call on a ticket that brings no bytes: open result, abandon.
+    pub fn step(self, ticket: Ticket, asks: Move) -> StepChange
         ensures fits { λ r. ⌜ Fits (r .change) ⌝ }
-        ensures gateway { λ r. ⌜ changed (r .change) self ≡ gatewayDoes self (onTicket (ticket .0) (openResult success n)) .state ⌝ }
-        ensures answer { λ r. ⌜ ofStep (ofOpen (r .answer)) ≡ gatewayDoes self (onTicket (ticket .0) (openResult success n)) .answer ⌝ }
+        ensures gateway { λ r. ⌜ changed (r .change) self ≡ gatewayDoes self (onTicket (ticket .0) (bare asks)) .state ⌝ }
+        ensures answer { λ r. ⌜ ofStep (r .answer) ≡ gatewayDoes self (onTicket (ticket .0) (bare asks)) .answer ⌝ }
     {
-        let table = self.table;
-        let found = find(table, ticket);
-        let pending = found.exchange;
-        let moved = pending.open_result(success, n);
-        let exchange = moved.exchange;
-        let answer = moved.answer;
-        OpenChange {
-            change: exchange_at(self, found.place, exchange),
-            answer,
-        }
+        let mut salt = [0u8; 0];
+        self.step_with(ticket, asks, &[], &[], &mut salt)
     }
 
-    // Respond: the salt is written at the front of its buffer, and the exchange is closed.
-    pub fn respond(
+    // A call on a ticket with the bytes that it brings, as respond does: enc and nonce are written at the front of the salt buffer.
+    pub fn step_with(
         self,
         ticket: Ticket,
+        asks: Move,
         enc: &[u8],
         nonce: &[u8],
-        plain: u64,
         salt: &mut [u8],
-    ) -> AfterRespond
-        ensures gateway { λ r. ⌜ r .gateway ≡ gatewayDoes self
-            (onTicket (ticket .0) (respond (now (enc .entry)) (now (nonce .entry)) plain (now (salt .entry)))) .state ⌝ }
-        ensures answer { λ r. ⌜ ofStep (ofRespond (r .answer)) ≡ gatewayDoes self
-            (onTicket (ticket .0) (respond (now (enc .entry)) (now (nonce .entry)) plain (now (salt .entry)))) .answer ⌝ }
-        ensures buffer { λ r. ⌜ now (salt .exit) ≡ gatewayDoes self
-            (onTicket (ticket .0) (respond (now (enc .entry)) (now (nonce .entry)) plain (now (salt .entry)))) .buffer ⌝ }
-    {
-        let done = self.respond_change(ticket, enc, nonce, plain, salt);
-        let change = done.change;
-        let answer = done.answer;
-        AfterRespond {
-            gateway: put(self, change),
-            answer,
-        }
-    }
-
-    // What respond changes, and its answer.
-    pub fn respond_change(
-        self,
-        ticket: Ticket,
-        enc: &[u8],
-        nonce: &[u8],
-        plain: u64,
-        salt: &mut [u8],
-    ) -> RespondChange
+    ) -> StepChange
         ensures fits { λ r. ⌜ Fits (r .change) ⌝ }
         ensures gateway { λ r. ⌜ changed (r .change) self ≡ gatewayDoes self
-            (onTicket (ticket .0) (respond (now (enc .entry)) (now (nonce .entry)) plain (now (salt .entry)))) .state ⌝ }
-        ensures answer { λ r. ⌜ ofStep (ofRespond (r .answer)) ≡ gatewayDoes self
-            (onTicket (ticket .0) (respond (now (enc .entry)) (now (nonce .entry)) plain (now (salt .entry)))) .answer ⌝ }
+            (onTicket (ticket .0) (step asks (now (enc .entry)) (now (nonce .entry)) (now (salt .entry)))) .state ⌝ }
+        ensures answer { λ r. ⌜ ofStep (r .answer) ≡ gatewayDoes self
+            (onTicket (ticket .0) (step asks (now (enc .entry)) (now (nonce .entry)) (now (salt .entry)))) .answer ⌝ }
         ensures buffer { λ r. ⌜ now (salt .exit) ≡ gatewayDoes self
-            (onTicket (ticket .0) (respond (now (enc .entry)) (now (nonce .entry)) plain (now (salt .entry)))) .buffer ⌝ }
+            (onTicket (ticket .0) (step asks (now (enc .entry)) (now (nonce .entry)) (now (salt .entry)))) .buffer ⌝ }
     {
         let table = self.table;
         let found = find(table, ticket);
         let pending = found.exchange;
-        let moved = pending.respond(enc, nonce, plain, salt);
+        let moved = pending.moved(asks, enc, nonce, salt);
         let exchange = moved.exchange;
         let answer = moved.answer;
-        RespondChange {
-            change: exchange_at(self, found.place, exchange),
-            answer,
-        }
-    }
-
-    // Abandon: closed, and no reply is sent.
-    pub fn abandon(self, ticket: Ticket) -> AfterAbandon
-        ensures gateway { λ r. ⌜ r .gateway ≡ gatewayDoes self (onTicket (ticket .0) abandon) .state ⌝ }
-        ensures answer { λ r. ⌜ ofStep (ofAbandon (r .answer)) ≡ gatewayDoes self (onTicket (ticket .0) abandon) .answer ⌝ }
-    {
-        let done = self.abandon_change(ticket);
-        let change = done.change;
-        let answer = done.answer;
-        AfterAbandon {
-            gateway: put(self, change),
-            answer,
-        }
-    }
-
-    // What abandon changes, and its answer.
-    pub fn abandon_change(self, ticket: Ticket) -> AbandonChange
-        ensures fits { λ r. ⌜ Fits (r .change) ⌝ }
-        ensures gateway { λ r. ⌜ changed (r .change) self ≡ gatewayDoes self (onTicket (ticket .0) abandon) .state ⌝ }
-        ensures answer { λ r. ⌜ ofStep (ofAbandon (r .answer)) ≡ gatewayDoes self (onTicket (ticket .0) abandon) .answer ⌝ }
-    {
-        let table = self.table;
-        let found = find(table, ticket);
-        let pending = found.exchange;
-        let moved = pending.abandon();
-        let exchange = moved.exchange;
-        let answer = moved.answer;
-        AbandonChange {
+        StepChange {
             change: exchange_at(self, found.place, exchange),
             answer,
         }
     }
 
     // Retire: later admissions refuse the key; pending exchanges go on.
-    pub fn retire(self, id: KeyId) -> AfterRetire
-        ensures gateway { λ r. ⌜ r .gateway ≡ gatewayDoes self (retire (id .0)) .state ⌝ }
-        ensures answer { λ r. ⌜ ofRetire (r .answer) ≡ gatewayDoes self (retire (id .0)) .answer ⌝ }
-    {
-        let done = self.retire_change(id);
-        let change = done.change;
-        let answer = done.answer;
-        AfterRetire {
-            gateway: put(self, change),
-            answer,
-        }
-    }
-
-    // What retire changes, and its answer.
-    pub fn retire_change(self, id: KeyId) -> RetireChange
+    pub fn retire(self, id: KeyId) -> RetireChange
         ensures fits { λ r. ⌜ Fits (r .change) ⌝ }
         ensures gateway { λ r. ⌜ changed (r .change) self ≡ gatewayDoes self (retire (id .0)) .state ⌝ }
         ensures answer { λ r. ⌜ ofRetire (r .answer) ≡ gatewayDoes self (retire (id .0)) .answer ⌝ }

@@ -1,6 +1,2 @@
--- What hosts get of the libraries' answers: each as a struct that begins with its outcome.
-pub mod Outcome
-pub mod Calls
-pub mod Lists
-pub mod Client
+-- How many bytes the exported structs take.
 pub mod Sizes

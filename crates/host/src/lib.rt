@@ -4,5 +4,4 @@ pub mod change;
 pub mod client_calls;
 pub mod gateway_calls;
 pub mod list_calls;
-pub mod outcome;
 pub mod sizes;

@@ -1,20 +1,82 @@
--- `gateway::Gateway::retire` meets its contract: it puts the change that `retire_change` hands on.
+-- `gateway::Gateway::retire` meets its contract, by the place and the number that it finds.
 -- Assumes nothing.
-use mathlib.Core.Path.{_∙_}
+use mathlib.Core.Path.{sym, _∙_}
+use Prim.Native.Nat.{_<_}
+use native.Mathlib.Omega.{arith}
 use borrow.Author.Needs.{needs}
+use Rattle.keys.proofs.Stored.{place-retired}
+use Rattle.gateway.proofs.Lengths.{full-keys}
+use Rattle.gateway.proofs.Results.{not-retired, is-retired}
 use Rattle.gateway.proofs.Gateway.retire.Statement.{statement}
 use Rattle.gateway.proofs.Gateway.retire.Tie as tie
 
-retire-change-requires : tie.Need-retire-change-requires
-retire-change-requires c κs = search needs
+find-requires : tie.Need-find-requires
+find-requires c κs = search needs
 
-put-requires : tie.Need-put-requires
-put-requires c κs = search needs
+retire-refusal-requires : tie.Need-retire-refusal-requires
+retire-refusal-requires c κs = search needs
+
+nothing-requires : tie.Need-nothing-requires
+nothing-requires c κs = search needs
+
+of-requires : tie.Need-of-requires
+of-requires c κs = search needs
 
 returns : tie.Need-returns
 returns c =
-    let done = c .before .before .retire-change .ensures in
-    (c .put .ensures ∙ done .1 .0, done .1 .1)
+    let number = c .before .before .before in
+    let find = number .before in
+    let a = find .before .before .args in
+    let nothing = c .before .nothing .ensures in
+    let refused = c .before .before .if1 .taken in (
+      nothing .0,
+      not-retired (a .self) (a .id .0) _ _ (find .find .ensures) (number .retire-refusal .ensures) _ (nothing .1) _ (c .of .ensures) refused,
+    )
+
+-- there is a key at the place
+inside : (c : tie.Else1) → c .before .before .find .result < 16
+inside c =
+    let find = c .before .before in
+    let start = find .before .before in
+    let g = start .args .self in
+    place-retired (g .keys) (full-keys g _ (start .good .0)) (find .find .result) (sym (c .before .retire-refusal .ensures) ∙ c .if1 .left)
+
+mul-key : tie.Need-mul-key
+mul-key c = record { fits = omega (arith, inside c) }
+
+element-copy-out-key : tie.Need-element-copy-out-key
+element-copy-out-key c = inside c
+
+nothing-requires-2 : tie.Need-nothing-requires-2
+nothing-requires-2 c κs = search needs
+
+retired-requires : tie.Need-retired-requires
+retired-requires c κs = search needs
+
+returns-2 : tie.Need-returns-2
+returns-2 c =
+    let accepted = c .before .before .before in
+    let number = accepted .before in
+    let find = number .before in
+    let start = find .before .before in
+    let a = start .args in
+    let nothing = c .before .nothing2 .ensures in (
+      (omega (arith, inside accepted), nothing .0 .1),
+      is-retired (a .self) (a .id .0) _ _ (find .find .ensures) (number .retire-refusal .ensures) _ (nothing .1)
+          (accepted .if1 .left) (full-keys (a .self) _ (start .good .0)) (inside accepted) _ (c .retired .ensures),
+    )
 
 pub retire-spec : {M : Type 1} → statement M
-retire-spec = tie.close (tie.spec retire-change-requires put-requires returns)
+retire-spec =
+    tie.close
+    (tie.spec
+    find-requires
+    retire-refusal-requires
+    nothing-requires
+    of-requires
+    returns
+    mul-key
+    element-copy-out-key
+    nothing-requires-2
+    retired-requires
+    returns-2)

@@ -1,0 +1,100 @@
+-- `exchange::Exchange::response_holds` meets its contract.
+-- Assumes nothing.
+use mathlib.Core.Bool.{true, false}
+use mathlib.Core.Path.{_≡_, refl, sym, _∙_}
+use lib.Dec.{eqb}
+use borrow.Author.Tests.{eq-eqb, ne-eqb}
+use Rattle.wire.proofs.Booleans.{and-false}
+use Rattle.algorithms.specs.Sizes.{knownKem, knownAead, encLength, responseNonceLength}
+use Rattle.algorithms.proofs.Answers.{known, unknown}
+use borrow.Author.Needs.{needs}
+use Rattle.exchange.proofs.Exchange.response_holds.Statement.{statement}
+use Rattle.exchange.proofs.Exchange.response_holds.Tie as tie
+
+-- the first lookup's answer: the KEM is known, and how long its enc is
+enc-known : (c : tie.After-enc-length2)
+    → (knownKem (c .before .before .before .args .self .kem) ≡ true)
+    × (encLength (c .before .before .before .args .self .kem) ≡ c .enc-length2 .given .0 .0)
+enc-known c =
+    let kem = c .before .before .before .args .self .kem in
+    known (knownKem kem) (encLength kem) (c .enc-length2 .given .0 .0)
+    (sym (c .before .before .enc-length .ensures) ∙ c .enc-length2 .given .1)
+
+-- the second lookup's answer: the AEAD is known, and how long its response nonce is
+nonce-known : (c : tie.After-nonce-length)
+    → (knownAead (c .before .before .before .before .before .before .before .args .self .aead) ≡ true)
+    × (responseNonceLength (c .before .before .before .before .before .before .before .args .self .aead) ≡ c .nonce-length .given .0 .0)
+nonce-known c =
+    let aead = c .before .before .before .before .before .before .before .args .self .aead in
+    known (knownAead aead) (responseNonceLength aead) (c .nonce-length .given .0 .0)
+    (sym (c .before .before .response-nonce-length .ensures) ∙ c .nonce-length .given .1)
+
+enc-length-requires : tie.Need-enc-length-requires
+enc-length-requires c κs = search needs
+
+enum-known-enc-length : tie.Need-enum-known-enc-length
+enum-known-enc-length c = search needs
+
+enum-told : tie.Need-enum-told
+enum-told c = search needs
+
+returns : tie.Need-returns
+returns c =
+    let kem = c .before .before .before .args .self .kem in
+    rw (unknown (knownKem kem) (encLength kem) (sym (c .before .before .enc-length .ensures) ∙ c .enum-told .given .1))
+
+response-nonce-length-requires : tie.Need-response-nonce-length-requires
+response-nonce-length-requires c κs = search needs
+
+enum-known-nonce-length : tie.Need-enum-known-nonce-length
+enum-known-nonce-length c = search needs
+
+enum-told-2 : tie.Need-enum-told-2
+enum-told-2 c = search needs
+
+returns-2 : tie.Need-returns-2
+returns-2 c =
+    let looked = c .before .before in
+    let found = looked .before .before in
+    let a = found .before .before .before .args in
+    rw (
+      enc-known found .0,
+      unknown (knownAead (a .self .aead)) (responseNonceLength (a .self .aead))
+          (sym (looked .response-nonce-length .ensures) ∙ c .enum-told2 .given .1),
+    )
+    (sym (and-false (eqb (a .enc) (encLength (a .self .kem))) false refl))
+
+returns-3 : tie.Need-returns-3
+returns-3 c =
+    let e = enc-known (c .before .before .before .before .before .before) in
+    rw (e .0, e .1, ne-eqb _ _ (c .if1 .taken))
+
+returns-4 : tie.Need-returns-4
+returns-4 c =
+    let nonce = c .before .before .before in
+    let e = enc-known (nonce .before .before .before .before) in
+    let n = nonce-known nonce in
+    rw (e .0, e .1, eq-eqb _ _ (c .before .if1 .left), n .0, n .1, ne-eqb _ _ (c .if2 .taken))
+
+returns-5 : tie.Need-returns-5
+returns-5 c =
+    let nonce = c .before .before .before in
+    let e = enc-known (nonce .before .before .before .before) in
+    let n = nonce-known nonce in
+    rw (e .0, e .1, eq-eqb _ _ (c .before .if1 .left), n .0, n .1, eq-eqb _ _ (c .if2 .left))
+
+pub response-holds-spec : {M : Type 1} → statement M
+response-holds-spec =
+    tie.close
+    (tie.spec
+    enc-length-requires
+    enum-known-enc-length
+    enum-told
+    returns
+    response-nonce-length-requires
+    enum-known-nonce-length
+    enum-told-2
+    returns-2
+    returns-3
+    returns-4
+    returns-5)

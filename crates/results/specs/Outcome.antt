@@ -1,0 +1,27 @@
+-- What every answer to a host begins with: refusal number (0: accepted), place, HTTP status (0: nothing is sent), problem type.
+use Prim.Native.Nat.{ℕ}
+use Rattle.wire.specs.declared.refusal.Refusal.{Refusal}
+use Rattle.results.specs.declared.outcome.Outcome.{Outcome}
+use Rattle.results.specs.declared.outcome.NumberResult.{NumberResult}
+use Rattle.results.specs.declared.outcome.TwoNumbersResult.{TwoNumbersResult}
+
+-- an accepted call, and the status that it sends
+abbrev pub sends : ℕ → Outcome
+sends status = record { number = 0; place = 0; status = status; problem = 0 }
+
+-- a refusal that sends nothing
+abbrev pub refusedBy : Refusal → Outcome
+refusedBy r = record { number = r .number; place = r .place; status = 0; problem = 0 }
+
+-- an outcome with a number, or with two; 0 on refusal
+abbrev pub numbered : ℕ → NumberResult
+numbered n = record { outcome = sends 0; number = n }
+
+abbrev pub notNumbered : Refusal → NumberResult
+notNumbered r = record { outcome = refusedBy r; number = 0 }
+
+abbrev pub twoNumbered : ℕ → ℕ → TwoNumbersResult
+twoNumbered first second = record { outcome = sends 0; first = first; second = second }
+
+abbrev pub notTwoNumbered : Refusal → TwoNumbersResult
+notTwoNumbered r = record { outcome = refusedBy r; first = 0; second = 0 }

@@ -1,0 +1,293 @@
+// Setup and the six calls, as hosts get them: each takes a gateway by value, and hands on what it changes with a plain struct as the result.
+ghost use mathlib.Core.Path.{_≡_};
+ghost use mathlib.Core.Bool.{not};
+ghost use mathlib.Core.List.{[]};
+ghost use lib.Dec.{eqb};
+ghost use Rattle.exchange.specs.Steps.{step, openResult, respond, abandon};
+ghost use Rattle.gateway.specs.Registry.{setup, setupAnswer};
+ghost use Rattle.gateway.specs.Gateway.{freshGateway};
+ghost use Rattle.gateway.specs.Calls.{admit, retire, onTicket, reporting, ofAdmit, ofRetire, ofStep, gatewayDoes};
+ghost use Rattle.results.specs.Calls.{Changes, outcomeOf, numberIn, problemType, setupResult, admitResult, stepResult, reportResult};
+use crate::outcome::NumberResult;
+use crate::outcome::Outcome;
+use exchange::Move;
+use exchange::StepAnswer;
+use exchange::Ticket;
+use gateway::AdmitAnswer;
+use gateway::Gateway;
+use gateway::RetireAnswer;
+use gateway::SetupAnswer;
+use gateway::change::Change;
+use keylist::KeyId;
+use keylist::check::MOST_CONFIGURATIONS;
+use keys::KeyReport;
+
+// An admission: its ticket, where its parts start and end in the request, its pair and its key.
+#[repr(C)]
+pub struct AdmitResult {
+    pub outcome: Outcome,
+    pub ticket: u64,
+    pub enc_start: usize,
+    pub enc_end: usize,
+    pub ciphertext_start: usize,
+    pub ciphertext_end: usize,
+    pub kdf: u16,
+    pub aead: u16,
+    pub key_id: u8,
+}
+
+// Last ticket, number pending, and the keys in list order, first in `keys`.
+#[repr(C)]
+pub struct ReportResult {
+    pub outcome: Outcome,
+    pub last_ticket: u64,
+    pub pending: usize,
+    pub key_count: usize,
+    pub keys: [KeyReport; MOST_CONFIGURATIONS],
+}
+
+// The gateway that setup made, with the result.
+pub struct Fresh {
+    pub gateway: Gateway,
+    pub result: NumberResult,
+}
+
+// What a call changes of the gateway, with the result.
+pub struct Admitting {
+    pub change: Change,
+    pub result: AdmitResult,
+}
+
+pub struct Stepping {
+    pub change: Change,
+    pub result: NumberResult,
+}
+
+pub struct Closing {
+    pub change: Change,
+    pub result: Outcome,
+}
+
+// Setup: a fresh gateway of a key list and a cap, and the number of keys; on refusal the gateway without keys.
+pub fn setup(list: &[u8], cap: u64) -> Fresh
+    ensures { λ r. ⌜ (r .gateway ≡ freshGateway (now (list .entry)) cap)
+        × (r .result ≡ setupResult (setupAnswer (setup (now (list .entry)) cap))) ⌝ }
+{
+    let after = Gateway::setup(list, cap);
+    let gateway = after.gateway;
+    let answer = after.answer;
+    Fresh {
+        gateway,
+        result: setup_result(answer),
+    }
+}
+
+// Admit: counts the use, gives the next ticket and writes info at the front of its buffer.
+pub fn admit(gateway: Gateway, request: &[u8], info: &mut [u8]) -> Admitting
+    ensures { λ r. ⌜ Changes admitResult (admit (now (request .entry)) (now (info .entry)))
+        gateway (r .change) (r .result) (now (info .exit)) ⌝ }
+{
+    let done = gateway.admit(request, info);
+    let change = done.change;
+    let answer = done.answer;
+    Admitting {
+        change,
+        result: admit_result(answer),
+    }
+}
+
+// A call on a ticket, with the bytes that it brings.
+pub fn step(
+    gateway: Gateway,
+    ticket: u64,
+    asks: Move,
+    enc: &[u8],
+    nonce: &[u8],
+    salt: &mut [u8],
+) -> Stepping
+    ensures { λ r. ⌜ Changes stepResult (onTicket ticket (step asks (now (enc .entry)) (now (nonce .entry)) (now (salt .entry))))
+        gateway (r .change) (r .result) (now (salt .exit)) ⌝ }
+{
+    let done = gateway.step_with(Ticket(ticket), asks, enc, nonce, salt);
+    let change = done.change;
+    let answer = done.answer;
+    Stepping {
+        change,
+        result: step_result(answer),
+    }
+}
+
+// Open result: `success` is 0 where the host could not open the request, and any other number where it opened n bytes. The number is 1 where
+// the exchange is opened now.
+pub fn open(gateway: Gateway, ticket: u64, success: u8, n: u64) -> Stepping
+    ensures { λ r. ⌜ Changes stepResult (onTicket ticket (openResult (not (eqb success 0)) n))
+        gateway (r .change) (r .result) [] ⌝ }
+{
+    let done = gateway.step(Ticket(ticket), opening(success, n));
+    let change = done.change;
+    let answer = done.answer;
+    Stepping {
+        change,
+        result: step_result(answer),
+    }
+}
+
+fn opening(success: u8, n: u64) -> Move {
+    if success != 0 {
+        Move::Open(n)
+    } else {
+        Move::Fail
+    }
+}
+
+// Respond: the salt is written at the front of its buffer, and the exchange is closed. The number is the length of the encapsulated response.
+pub fn respond(
+    gateway: Gateway,
+    ticket: u64,
+    enc: &[u8],
+    nonce: &[u8],
+    plain: u64,
+    salt: &mut [u8],
+) -> Stepping
+    ensures { λ r. ⌜ Changes stepResult (onTicket ticket (respond (now (enc .entry)) (now (nonce .entry)) plain (now (salt .entry))))
+        gateway (r .change) (r .result) (now (salt .exit)) ⌝ }
+{
+    step(gateway, ticket, Move::Respond(plain), enc, nonce, salt)
+}
+
+// Abandon: closed, and no reply is sent.
+pub fn abandon(gateway: Gateway, ticket: u64) -> Closing
+    ensures { λ r. ⌜ Changes outcomeOf (onTicket ticket abandon) gateway (r .change) (r .result) [] ⌝ }
+{
+    let done = gateway.step(Ticket(ticket), Move::Abandon);
+    let change = done.change;
+    let answer = done.answer;
+    Closing {
+        change,
+        result: step_outcome(answer),
+    }
+}
+
+// Retire: later admissions refuse the key; pending exchanges go on.
+pub fn retire(gateway: Gateway, key_id: u8) -> Closing
+    ensures { λ r. ⌜ Changes outcomeOf (retire «key_id») gateway (r .change) (r .result) [] ⌝ }
+{
+    let done = gateway.retire(KeyId(key_id));
+    let change = done.change;
+    let answer = done.answer;
+    Closing {
+        change,
+        result: retire_result(answer),
+    }
+}
+
+// Report: last ticket, number pending, and each key's count and retirement. Nothing changes.
+pub fn report(gateway: Gateway) -> ReportResult
+    ensures { λ r. ⌜ r ≡ reportResult (gatewayDoes gateway reporting .answer) ⌝ }
+{
+    let report = gateway.report();
+    let keys = report.keys;
+    ReportResult {
+        outcome: Outcome::sends(0),
+        last_ticket: report.last_ticket.0,
+        pending: report.pending,
+        key_count: report.key_count,
+        keys,
+    }
+}
+
+fn setup_result(answer: SetupAnswer) -> NumberResult
+    ensures { λ r. ⌜ r ≡ setupResult answer ⌝ }
+{
+    match answer {
+        SetupAnswer::Ready(keys) => NumberResult::of(keys),
+        SetupAnswer::Refused(refusal) => NumberResult::refused(refusal),
+    }
+}
+
+fn admit_result(answer: AdmitAnswer) -> AdmitResult
+    ensures { λ r. ⌜ r ≡ admitResult (ofAdmit answer) ⌝ }
+{
+    match answer {
+        AdmitAnswer::Admitted(admission) => AdmitResult {
+            outcome: Outcome::sends(0),
+            ticket: admission.ticket.0,
+            enc_start: admission.enc_start,
+            enc_end: admission.enc_end,
+            ciphertext_start: admission.ciphertext_start,
+            ciphertext_end: admission.ciphertext_end,
+            kdf: admission.kdf,
+            aead: admission.aead,
+            key_id: admission.key_id.0,
+        },
+        AdmitAnswer::Refused(refusal) => AdmitResult {
+            outcome: Outcome {
+                number: refusal.number,
+                place: 0,
+                status: refusal.status,
+                problem: problem(refusal.key_problem),
+            },
+            ticket: 0,
+            enc_start: 0,
+            enc_end: 0,
+            ciphertext_start: 0,
+            ciphertext_end: 0,
+            kdf: 0,
+            aead: 0,
+            key_id: 0,
+        },
+    }
+}
+
+fn problem(key_problem: bool) -> u8
+    ensures { λ r. ⌜ r ≡ problemType «key_problem» ⌝ }
+{
+    if key_problem {
+        Outcome::OHTTP_KEY
+    } else {
+        Outcome::NO_PROBLEM
+    }
+}
+
+// What goes out for an answer to a call on a ticket, or why nothing does.
+fn step_outcome(answer: StepAnswer) -> Outcome
+    ensures { λ r. ⌜ r ≡ outcomeOf (ofStep answer) ⌝ }
+{
+    match answer {
+        StepAnswer::Opened => Outcome::sends(0),
+        StepAnswer::Failed(status) => Outcome::sends(status),
+        StepAnswer::Sealed(sealed) => Outcome::sends(sealed.status),
+        StepAnswer::Abandoned => Outcome::sends(0),
+        StepAnswer::Refused(refusal) => Outcome::refused(refusal),
+    }
+}
+
+fn step_number(answer: StepAnswer) -> u64
+    ensures { λ r. ⌜ r ≡ numberIn (ofStep answer) ⌝ }
+{
+    match answer {
+        StepAnswer::Opened => 1,
+        StepAnswer::Failed(_) => 0,
+        StepAnswer::Sealed(sealed) => sealed.length,
+        StepAnswer::Abandoned => 0,
+        StepAnswer::Refused(_) => 0,
+    }
+}
+
+fn step_result(answer: StepAnswer) -> NumberResult
+    ensures { λ r. ⌜ r ≡ stepResult (ofStep answer) ⌝ }
+{
+    NumberResult {
+        outcome: step_outcome(answer),
+        number: step_number(answer),
+    }
+}
+
+fn retire_result(answer: RetireAnswer) -> Outcome
+    ensures { λ r. ⌜ r ≡ outcomeOf (ofRetire answer) ⌝ }
+{
+    match answer {
+        RetireAnswer::Retired => Outcome::sends(0),
+        RetireAnswer::Refused(refusal) => Outcome::refused(refusal),
+    }
+}

@@ -1,0 +1,102 @@
+// What every answer begins with.
+ghost use mathlib.Core.Path.{_≡_};
+ghost use Rattle.results.specs.Outcome.{sends, refusedBy, numbered, notNumbered, twoNumbered, notTwoNumbered};
+use wire::refusal::Refusal;
+
+// The refusal number, 0 where the call is accepted; the refusal's place; the HTTP status to send, 0 where nothing is sent; the
+// problem type of an unprotected answer.
+#[repr(C)]
+pub struct Outcome {
+    pub number: u8,
+    pub place: usize,
+    pub status: u16,
+    pub problem: u8,
+}
+
+impl Outcome {
+    // Problem types.
+    pub const NO_PROBLEM: u8 = 0;
+
+    pub const OHTTP_KEY: u8 = 1;
+
+    // An accepted call; the status is 0 where nothing is sent.
+    pub(crate) fn sends(status: u16) -> Self
+        ensures { λ r. ⌜ r ≡ sends status ⌝ }
+    {
+        Outcome {
+            number: 0,
+            place: 0,
+            status,
+            problem: Outcome::NO_PROBLEM,
+        }
+    }
+
+    // A refusal that sends nothing.
+    pub(crate) fn refused(refusal: Refusal) -> Self
+        ensures { λ r. ⌜ r ≡ refusedBy refusal ⌝ }
+    {
+        Outcome {
+            number: refusal.number,
+            place: refusal.place,
+            status: 0,
+            problem: Outcome::NO_PROBLEM,
+        }
+    }
+}
+
+// An outcome and a number, 0 on refusal.
+#[repr(C)]
+pub struct NumberResult {
+    pub outcome: Outcome,
+    pub number: u64,
+}
+
+impl NumberResult {
+    pub(crate) fn of(number: usize) -> Self
+        ensures { λ r. ⌜ r ≡ numbered number ⌝ }
+    {
+        NumberResult {
+            outcome: Outcome::sends(0),
+            number: number as u64,
+        }
+    }
+
+    pub(crate) fn refused(refusal: Refusal) -> Self
+        ensures { λ r. ⌜ r ≡ notNumbered refusal ⌝ }
+    {
+        NumberResult {
+            outcome: Outcome::refused(refusal),
+            number: 0,
+        }
+    }
+}
+
+// An outcome and two numbers, 0 on refusal.
+#[repr(C)]
+pub struct TwoNumbersResult {
+    pub outcome: Outcome,
+    pub first: usize,
+    pub second: usize,
+}
+
+impl TwoNumbersResult {
+    pub(crate) fn of(first: usize, second: usize) -> Self
+        ensures { λ r. ⌜ r ≡ twoNumbered first second ⌝ }
+    {
+        TwoNumbersResult {
+            outcome: Outcome::sends(0),
+            first,
+            second,
+        }
+    }
+
+    pub(crate) fn refused(refusal: Refusal) -> Self
+        ensures { λ r. ⌜ r ≡ notTwoNumbered refusal ⌝ }
+    {
+        TwoNumbersResult {
+            outcome: Outcome::refused(refusal),
+            first: 0,
+            second: 0,
+        }
+    }
+}
