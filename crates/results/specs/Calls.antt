@@ -36,7 +36,7 @@ abbrev pub refusedAdmit : AdmitRefusal → Outcome
 refusedAdmit r = record { number = r .number; place = 0; status = r .status; problem = problemType (r .«key_problem») }
 
 -- an answer's refusal, and the status that it sends: admit's refusals, a failed opening, a sealed response
-unfoldable pub outcomeOf : Answer → Outcome
+abbrev pub outcomeOf : Answer → Outcome
 outcomeOf (ofAdmit (AdmitAnswer.Admitted a)) = sends 0
 outcomeOf (ofAdmit (AdmitAnswer.Refused r)) = refusedAdmit r
 outcomeOf (ofRetire RetireAnswer.Retired) = sends 0
@@ -62,7 +62,7 @@ noAdmission =
       «ciphertext_end» = 0;
     }
 
-unfoldable pub admissionIn : Answer → Admission
+abbrev pub admissionIn : Answer → Admission
 admissionIn (ofAdmit (AdmitAnswer.Admitted a)) = a
 admissionIn (ofAdmit (AdmitAnswer.Refused r)) = noAdmission
 admissionIn (ofRetire r) = noAdmission
@@ -84,7 +84,7 @@ admitResult answer =
     }
 
 -- 1 where the answer is that the exchange is opened, the encapsulated length of a sealed response
-unfoldable pub numberIn : Answer → ℕ
+abbrev pub numberIn : Answer → ℕ
 numberIn (ofStep StepAnswer.Opened) = 1
 numberIn (ofStep (StepAnswer.Failed status)) = 0
 numberIn (ofStep (StepAnswer.Sealed s)) = s .length
@@ -101,7 +101,7 @@ stepResult answer = record { outcome = outcomeOf answer; number = numberIn answe
 abbrev pub noReport : Report
 noReport = record { «last_ticket» = record { 0 = 0 }; pending = 0; «key_count» = 0; keys = storedReports [] }
 
-unfoldable pub reportIn : Answer → Report
+abbrev pub reportIn : Answer → Report
 reportIn (ofReport r) = r
 reportIn (ofAdmit r) = noReport
 reportIn (ofRetire r) = noReport

@@ -3,7 +3,7 @@ ghost use mathlib.Core.Path.{_≡_};
 ghost use mathlib.Core.Bool.{not};
 ghost use mathlib.Core.List.{[]};
 ghost use lib.Dec.{eqb};
-ghost use Rattle.exchange.specs.Steps.{step, openResult, respond, abandon};
+ghost use Rattle.exchange.specs.Steps.{step, bare, openResult, respond, abandon};
 ghost use Rattle.gateway.specs.Registry.{setup, setupAnswer};
 ghost use Rattle.gateway.specs.Gateway.{freshGateway};
 ghost use Rattle.gateway.specs.Calls.{admit, retire, onTicket, reporting, ofAdmit, ofRetire, ofStep, gatewayDoes};
@@ -132,7 +132,9 @@ pub fn open(gateway: Gateway, ticket: u64, success: u8, n: u64) -> Stepping
     }
 }
 
-fn opening(success: u8, n: u64) -> Move {
+fn opening(success: u8, n: u64) -> Move
+    ensures { λ r. ⌜ openResult (not (eqb success 0)) n ≡ bare r ⌝ }
+{
     if success != 0 {
         Move::Open(n)
     } else {

@@ -55,8 +55,9 @@ impl NumberResult {
     pub(crate) fn of(number: usize) -> Self
         ensures { λ r. ⌜ r ≡ numbered number ⌝ }
     {
+        let outcome = Outcome::sends(0);
         NumberResult {
-            outcome: Outcome::sends(0),
+            outcome,
             number: number as u64,
         }
     }
@@ -64,10 +65,8 @@ impl NumberResult {
     pub(crate) fn refused(refusal: Refusal) -> Self
         ensures { λ r. ⌜ r ≡ notNumbered refusal ⌝ }
     {
-        NumberResult {
-            outcome: Outcome::refused(refusal),
-            number: 0,
-        }
+        let outcome = Outcome::refused(refusal);
+        NumberResult { outcome, number: 0 }
     }
 }
 
@@ -83,8 +82,9 @@ impl TwoNumbersResult {
     pub(crate) fn of(first: usize, second: usize) -> Self
         ensures { λ r. ⌜ r ≡ twoNumbered first second ⌝ }
     {
+        let outcome = Outcome::sends(0);
         TwoNumbersResult {
-            outcome: Outcome::sends(0),
+            outcome,
             first,
             second,
         }
@@ -93,8 +93,9 @@ impl TwoNumbersResult {
     pub(crate) fn refused(refusal: Refusal) -> Self
         ensures { λ r. ⌜ r ≡ notTwoNumbered refusal ⌝ }
     {
+        let outcome = Outcome::refused(refusal);
         TwoNumbersResult {
-            outcome: Outcome::refused(refusal),
+            outcome,
             first: 0,
             second: 0,
         }
