@@ -13,19 +13,19 @@ use Rattle.wire.specs.Search.{firstPlace}
 use Rattle.wire.proofs.Booleans.{either, true-or-false}
 use Rattle.exchange.specs.declared.Exchange.{Exchange}
 use Rattle.exchange.specs.Exchange.{free, isFree, isAsked, hasTicket, exchangeOf}
-use Rattle.exchange.specs.Steps.{Step, openResult, respond, abandon, refusal, respondRefusal, next, after}
-use Rattle.exchange.proofs.Moves.{accepted-pending}
+use Rattle.exchange.specs.Steps.{Step, refusal, next, after, closes}
+use Rattle.exchange.proofs.Moves.{next-not-asked, closed-free}
+use Rattle.exchange.proofs.Steps.{accepted-pending, free-refuses, not-asked-silent}
 use Rattle.gateway.specs.declared.Gateway.{Gateway}
 use Rattle.gateway.specs.Gateway.{freshGateway}
-use Rattle.gateway.specs.Calls.{Call, onTicket, number, Done, gatewayDoes}
+use Rattle.gateway.specs.Calls.{Call, onTicket, number, unprotectedStatus, Done, gatewayDoes}
 use Rattle.book.specs.Book.{Book, freshBook, ticketNumber, bookDoes}
 use Rattle.book.specs.History.{final, gatewayAfter}
 use Rattle.book.specs.Demand3.{bookAfter}
-use Rattle.book.specs.Lifecycle.{holders, closes, IsAccepted, LifecycleHolds}
+use Rattle.book.specs.Lifecycle.{holders, IsAccepted, LifecycleHolds}
 use Rattle.book.proofs.Passing.{passing, passing-permuted}
 use Rattle.book.proofs.Table.{holding, holding-pending}
 use Rattle.book.proofs.Numbers.{step-number}
-use Rattle.book.proofs.Protecting.{not-asked-silent}
 use Rattle.book.proofs.Sound.{Sound}
 use Rattle.book.proofs.Refining.{Alike, found-told}
 use Rattle.book.proofs.Refinement.{fresh-alike, alike-after}
@@ -84,29 +84,6 @@ place-freed [] place = refl
 place-freed (e ∷ es) zero = refl
 place-freed (e ∷ es) (suc place) = place-freed es place
 
--- a call that closes leaves a free place
-closed-free : (step : Step) (e : Exchange) → closes step ≡ true → next step e ≡ free
-unfolding next
-closed-free (openResult true n) e c = absurd (true-or-false c refl)
-closed-free (openResult false n) e c = refl
-closed-free (respond enc nonce plain salt) e c = refl
-closed-free abandon e c = refl
-
--- no call leaves an exchange asked
-next-not-asked : (step : Step) (e : Exchange) → isAsked (next step e) ≡ false
-unfolding next
-next-not-asked (openResult true n) e = refl
-next-not-asked (openResult false n) e = refl
-next-not-asked (respond enc nonce plain salt) e = refl
-next-not-asked abandon e = refl
-
--- a free place refuses every call on its ticket
-free-refuses : (step : Step) (e : Exchange) → isFree e ≡ true → refusal step e ≡ 11
-unfolding refusal respondRefusal
-free-refuses (openResult success n) e f = rw f
-free-refuses (respond enc nonce plain salt) e f = rw f
-free-refuses abandon e f = rw f
-
 -- the number of an answer to a call on a ticket
 step-told : (g : Gateway) (ticket : ℕ) (step : Step)
     → number (gatewayDoes g (onTicket ticket step) .answer) ≡ refusal step (exchangeOf ticket (g .table))
@@ -138,12 +115,12 @@ module _ (list : List ℕ) (cap : ℕ) (calls : List Call) (ticket : ℕ) (step 
       ) (has-after P none kept ticket (bookDoes b (onTicket ticket step) .state) between start .found)
 
   -- where it closes, later calls find none
-  closed-lasts : closes step ≡ true → (between : List Call)
+  closed-lasts : closes (step .asks) ≡ true → (between : List Call)
       → isFree (exchangeOf ticket (gatewayAfter list cap (calls ++ onTicket ticket step ∷ between) .table)) ≡ true
   closed-lasts closing =
       left-lasts (λ e. isFree e ≡ true) refl
       (λ later e z f. absurd (true-or-false f (accepted-pending later e z)))
-      (rw (closed-free step (exchangeOf ticket (bookAfter list cap calls .pending)) closing))
+      (rw (closed-free (step .asks) (exchangeOf ticket (bookAfter list cap calls .pending)) closing))
 
   -- the exchange stands in the table
   place-inside : firstPlace (hasTicket ticket) (gatewayAfter list cap calls .table) < length (gatewayAfter list cap calls .table)
@@ -155,7 +132,7 @@ module _ (list : List ℕ) (cap : ℕ) (calls : List Call) (ticket : ℕ) (step 
       (λ l. absurd (true-or-false (ap isFree (List·getD-eq-default table free (ltb-false place (length table) l))) found))
 
   -- and the place where the exchange stood is free
-  place-free : closes step ≡ true
+  place-free : closes (step .asks) ≡ true
       → getD (gatewayAfter list cap (calls ++ onTicket ticket step ∷ []) .table)
       (firstPlace (hasTicket ticket) (gatewayAfter list cap calls .table)) free
       ≡ free
@@ -163,22 +140,22 @@ module _ (list : List ℕ) (cap : ℕ) (calls : List Call) (ticket : ℕ) (step 
   place-free closing =
       let g = gatewayAfter list cap calls in
       let e = exchangeOf ticket (g .table) in
-      let free-after : after step e ≡ free = rw (sym (step-told g ticket step) ∙ accepted) (closed-free step e closing) in
+      let free-after : after step e ≡ free = rw (sym (step-told g ticket step) ∙ accepted) (closed-free (step .asks) e closing) in
       rw (final-append gatewayDoes (freshGateway list cap) calls (onTicket ticket step ∷ []), free-after)
       (place-freed (g .table) (firstPlace (hasTicket ticket) (g .table)))
 
 pub lifecycle-holds : LifecycleHolds
-unfolding gatewayDoes
+unfolding gatewayDoes unprotectedStatus
 lifecycle-holds list cap calls ticket =
     let end = alike-end list cap calls in
     let told = holding-told ticket (gatewayAfter list cap calls) (bookAfter list cap calls) end in
     record {
       oneHolder = rw told (end .sound .once ticket);
       given = λ later. none-there _ (told ∙ end .sound .given ticket (rw (← end .registry) later));
-      afterOpening = λ n between step accepted.
+      afterOpening = λ opening n between step opens accepted.
           not-asked-silent step _
-          (left-lasts list cap calls ticket (openResult true n) accepted (λ e. isAsked e ≡ false) refl
-          (λ later e z a. next-not-asked later e) (next-not-asked (openResult true n) _) between);
+          (left-lasts list cap calls ticket opening accepted (λ e. isAsked e ≡ false) refl
+          (λ later e z a. next-not-asked (later .asks) e) (next-not-asked (opening .asks) _) between);
       afterClosing = λ step between later closing accepted.
           step-number later _ ∙ free-refuses later _ (closed-lasts list cap calls ticket step accepted closing between);
       placeInside = λ step accepted. place-inside list cap calls ticket step accepted;

@@ -15,7 +15,8 @@ use Rattle.wire.proofs.Booleans.{either, true-or-false}
 use Rattle.exchange.specs.declared.Exchange.{Exchange}
 use Rattle.request.specs.Request.{fieldsOf}
 use Rattle.exchange.specs.Exchange.{isFree, exchangeOf, asked}
-use Rattle.exchange.specs.Steps.{Step, openResult, respond, abandon, refusal, respondRefusal}
+use Rattle.exchange.specs.Steps.{Step}
+use Rattle.exchange.proofs.Steps.{accepted-pending}
 use Rattle.gateway.specs.Registry.{Registry}
 use Rattle.gateway.specs.Calls.{Call, admit, retire, onTicket, reporting}
 use Rattle.book.specs.Book.{Book, freshBook, bookDoes}
@@ -26,16 +27,6 @@ use Rattle.book.proofs.Accepted.{numberOf, given}
 use Rattle.book.proofs.Runs.{Run, run-append, run-trace, run-final, struck-run}
 use Rattle.book.proofs.Pulling.{Pulled, pull, itsCalls, otherCalls}
 use Rattle.book.proofs.Chosen.{filtered-short, filtered-both, among-one, not-among-one, on-none, inOrder, order-of-others, others-of-others, own-of-others}
-
--- an accepted call on a ticket found its exchange
-found : (step : Step) (e : Exchange) → refusal step e ≡ 0 → isFree e ≡ false
-unfolding refusal respondRefusal
-found step e h = either (isFree e) (λ k. absurd (refused step k h)) (λ k. k)
-  where
-    refused : (step : Step) → isFree e ≡ true → refusal step e ≡ 0 → ⊥
-    refused (openResult success n) k h = let z : _≡_ {A = ℕ} 11 0 = rw k at h in omega arith
-    refused (respond enc nonce plain salt) k h = let z : _≡_ {A = ℕ} 11 0 = rw k at h in omega arith
-    refused abandon k h = let z : _≡_ {A = ℕ} 11 0 = rw k at h in omega arith
 
 -- a list of events, all of them again in another order, that leads from one book to another
 record Sorted (b c : Book) (sorted events : List Event) : Type 0 where
@@ -122,7 +113,7 @@ module _ (all : List Event) (c : Book) where
     sort-call (admit request info) e rest r sort =
         sort-admit request info e rest r (sort others (filtered-short (λ e. not (isOn (ticket ∷ []) (e .call))) events))
     sort-call (retire id) e rest r sort = sort-retire id e rest r (sort events (omega arith))
-    sort-call (onTicket t step) e rest r sort = absurd (on-pending t step (rest .old t (found step (exchangeOf t (b .pending)) e)))
+    sort-call (onTicket t step) e rest r sort = absurd (on-pending t step (rest .old t (accepted-pending step (exchangeOf t (b .pending)) e)))
     sort-call reporting e rest r sort = absurd (omega arith)
 
   -- the first event is such a call

@@ -13,7 +13,8 @@ use Rattle.wire.proofs.Booleans.{either, and-right, and-false}
 use Rattle.exchange.specs.declared.Exchange.{Exchange}
 use Rattle.request.specs.declared.Request.{Request}
 use Rattle.exchange.specs.Exchange.{isFree, hasTicket, exchangeOf, asked}
-use Rattle.exchange.specs.Steps.{Step, openResult, respond, abandon, next}
+use Rattle.exchange.specs.Steps.{Step, next}
+use Rattle.exchange.proofs.Moves.{next-ticket}
 use Rattle.book.specs.Book.{remaining, replaced}
 
 -- an exchange that has one ticket has no other
@@ -35,11 +36,10 @@ exchange-other t u (x ∷ xs) apart =
 
 -- nor has what a call on that ticket makes of it
 pub next-other : (t u : ℕ) (step : Step) (xs : List Exchange) → (t ≡ u → ⊥) → hasTicket t (next step (exchangeOf u xs)) ≡ false
-unfolding next
-next-other t u (openResult true n) xs apart = exchange-other t u xs apart
-next-other t u (openResult false n) xs apart = refl
-next-other t u (respond enc nonce plain salt) xs apart = refl
-next-other t u abandon xs apart = refl
+next-other t u step xs apart =
+    let left = next step (exchangeOf u xs) in
+    either (isFree left) (λ f. rw f)
+    (λ f. let same : left .ticket .0 ≡ exchangeOf u xs .ticket .0 = next-ticket (step .asks) (exchangeOf u xs) f in rw same (exchange-other t u xs apart))
 
 -- an exchange that has not the ticket
 module _ (t : ℕ) (x : Exchange) (not-its : hasTicket t x ≡ false) where

@@ -8,11 +8,11 @@ use Rattle.wire.specs.Search.{firstPlace}
 use Rattle.wire.proofs.Numbers.{unless-refused}
 use Rattle.exchange.specs.declared.Exchange.{Exchange}
 use Rattle.exchange.specs.Exchange.{free, hasTicket, exchangeOf}
-use Rattle.exchange.specs.Steps.{Step, openResult, respond, abandon, refusal, buffer}
+use Rattle.exchange.specs.Steps.{Step, refusal, buffer}
 use Rattle.gateway.specs.declared.Gateway.{Gateway}
 use Rattle.gateway.specs.Gateway.{withExchange, stepped, nextTicket}
 use Rattle.gateway.specs.Calls.{admit, retire, onTicket, reporting, number, gatewayDoes, admitNumber, retireNumber}
-use Rattle.book.specs.OneCall.{RefusalChangesNothing, lent}
+use Rattle.book.specs.OneCall.{RefusalChangesNothing}
 use Rattle.book.proofs.Numbers.{admit-number, retire-number, step-number}
 
 -- a gateway with the exchange that it has at a place
@@ -25,11 +25,8 @@ refused-gateway g ticket step h =
     ap (λ (e : Exchange). withExchange (firstPlace (hasTicket ticket) (g .table)) e g) (sym (unless-refused (refusal step (exchangeOf ticket (g .table))) _ (exchangeOf ticket (g .table)) h))
     ∙ same-exchange g (firstPlace (hasTicket ticket) (g .table))
 
-pub refused-buffer : (step : Step) (e : Exchange) (ticket : ℕ) → (refusal step e ≡ 0 → ⊥) → buffer step e ≡ lent (onTicket ticket step)
-unfolding buffer
-refused-buffer (openResult success n) e ticket h = refl
-refused-buffer (respond enc nonce plain salt) e ticket h = sym (unless-refused (refusal (respond enc nonce plain salt) e) _ salt h)
-refused-buffer abandon e ticket h = refl
+pub refused-buffer : (step : Step) (e : Exchange) → (refusal step e ≡ 0 → ⊥) → buffer step e ≡ step .salt
+refused-buffer step e h = sym (unless-refused (refusal step e) _ (step .salt) h)
 
 -- what is not 0 under one name is not 0 under another
 differs : {a b : ℕ} → a ≡ b → (a ≡ 0 → ⊥) → b ≡ 0 → ⊥
@@ -44,5 +41,5 @@ refusal-changes-nothing g (retire id) h =
     (sym (unless-refused _ _ g (differs (retire-number (retireNumber id g)) h)), refl)
 refusal-changes-nothing g (onTicket ticket step) h =
     let refuses = differs (step-number step (exchangeOf ticket (g .table))) h in
-    (refused-gateway g ticket step refuses, refused-buffer step (exchangeOf ticket (g .table)) ticket refuses)
+    (refused-gateway g ticket step refuses, refused-buffer step (exchangeOf ticket (g .table)) refuses)
 refusal-changes-nothing g reporting h = absurd (h refl)

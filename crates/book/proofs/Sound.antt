@@ -21,7 +21,8 @@ use Rattle.book.specs.Counts.{sumOfCounts}
 use Rattle.book.proofs.Passing.{passing, passing-append}
 use Rattle.book.proofs.Table.{holding, holding-one, holding-other, holding-replaced, found-has}
 use Rattle.book.proofs.Accepting.{unless-kept, retire-accepted, Admitted, admit-accepted}
-use Rattle.exchange.proofs.Moves.{accepted-pending, next-ticket}
+use Rattle.exchange.proofs.Moves.{next-ticket}
+use Rattle.exchange.proofs.Steps.{accepted-pending}
 use Rattle.keys.proofs.Parsed.{Distinct}
 use Rattle.keys.proofs.Views.{parsed-view, parsed-distinct}
 use Rattle.book.proofs.KeyCounts.{ids, sum-bound, fresh-ids, fresh-count, fresh-sum, used-within, used-sum, used-ids, number-kept, retired-sum, retired-ids}
@@ -86,7 +87,7 @@ moved-sound ticket step b s accepted =
     let e = exchangeOf ticket (b .pending) in
     let fewer : (other : ℕ) → holding other (bookStepped ticket step b .pending) ≤ holding other (b .pending) =
     λ other. holding-replaced other ticket (next step e) (b .pending)
-    (λ h. next-ticket step e h ∙ found-has ticket (b .pending) (accepted-pending step e accepted)) in
+    (λ h. next-ticket (step .asks) e h ∙ found-has ticket (b .pending) (accepted-pending step e accepted)) in
     record {
       capLeast = s .capLeast;
       capBound = s .capBound;

@@ -6,13 +6,14 @@ use mathlib.Core.Logic.{_↔_}
 use mathlib.Core.Bool.{true, false}
 use mathlib.Core.List.{List, []}
 use lib.ListN.{length, getD}
+use Rattle.wire.specs.Tests.{pick}
 use Rattle.wire.specs.Refusals.{unlessRefused}
 use Rattle.wire.specs.Texts.{infoLength}
 use Rattle.algorithms.specs.Sizes.{knownKem, knownKdf, knownAead, shortestRequest}
 use Rattle.exchange.specs.declared.Exchange.{Exchange}
 use Rattle.request.specs.Request.{longestRequest, keyIdOf, kemOf, kdfOf, aeadOf, fieldsOf}
 use Rattle.exchange.specs.Exchange.{free, isFree, asked, exchangeOf}
-use Rattle.exchange.specs.Steps.{openResult, respond, abandon, refusal}
+use Rattle.exchange.specs.Steps.{refusal, fails}
 use Rattle.keys.specs.Keys.{keyAt}
 use Rattle.keys.specs.Stored.{noPair}
 use Rattle.gateway.specs.declared.Gateway.{Gateway}
@@ -25,9 +26,7 @@ use Rattle.book.specs.History.{gatewayAfter}
 abbrev pub lent : Call → List ℕ
 lent (admit request info) = info
 lent (retire id) = []
-lent (onTicket ticket (openResult success n)) = []
-lent (onTicket ticket (respond enc nonce plain salt)) = salt
-lent (onTicket ticket abandon) = []
+lent (onTicket ticket step) = step .salt
 lent reporting = []
 
 -- "A refusal changes no gateway and no byte of a lent buffer", for every gateway and every call
@@ -74,11 +73,8 @@ AdmissionExactly =
 abbrev pub unprotectedFor : Gateway → Call → ℕ
 unprotectedFor g (admit request info) = unlessRefused (admitNumber request info g) 0 (statusOf (admitNumber request info g))
 unprotectedFor g (retire id) = 0
-unprotectedFor g (onTicket ticket (openResult true n)) = 0
-unprotectedFor g (onTicket ticket (openResult false n)) =
-    unlessRefused (refusal (openResult false n) (exchangeOf ticket (g .table))) 422 0
-unprotectedFor g (onTicket ticket (respond enc nonce plain salt)) = 0
-unprotectedFor g (onTicket ticket abandon) = 0
+unprotectedFor g (onTicket ticket step) =
+    unlessRefused (refusal step (exchangeOf ticket (g .table))) (pick (fails (step .asks)) 422 0) 0
 unprotectedFor g reporting = 0
 
 -- for every gateway and every call

@@ -65,15 +65,32 @@ abbrev pub refusal : Step → Exchange → ℕ
 refusal s e = refusalBy (s .asks) (length (s .enc)) (length (s .nonce)) (length (s .salt)) e
 
 -- what an accepted call makes of the exchange: opened, or closed
-abbrev pub next : Move → Exchange → Exchange
-next (Move.Open n) e = opened e
-next Move.Fail e = free
-next (Move.Respond plain) e = free
-next Move.Abandon e = free
+abbrev pub nextBy : Move → Exchange → Exchange
+nextBy (Move.Open n) e = opened e
+nextBy Move.Fail e = free
+nextBy (Move.Respond plain) e = free
+nextBy Move.Abandon e = free
+
+abbrev pub next : Step → Exchange → Exchange
+next s e = nextBy (s .asks) e
 
 -- what a call leaves of the exchange
 abbrev pub after : Step → Exchange → Exchange
-after s e = unlessRefused (refusal s e) (next (s .asks) e) e
+after s e = unlessRefused (refusal s e) (next s e) e
+
+-- the calls that close the exchange where they are accepted
+abbrev pub closes : Move → Bool
+closes (Move.Open n) = false
+closes Move.Fail = true
+closes (Move.Respond plain) = true
+closes Move.Abandon = true
+
+-- the failure of open result
+abbrev pub fails : Move → Bool
+fails (Move.Open n) = false
+fails Move.Fail = true
+fails (Move.Respond plain) = false
+fails Move.Abandon = false
 
 -- what an accepted call answers: opened, or on failure unprotected 422; sealed, outer status 200, and the encapsulated length: nonce +
 -- plain length + 16

@@ -4,7 +4,7 @@ ghost use mathlib.Core.Path.{_≡_};
 ghost use mathlib.Core.Bool.{true};
 ghost use Rattle.wire.specs.Tests.{_or_};
 ghost use Rattle.exchange.specs.Exchange.{free, isFree, isAsked, isOpened, asked, opened, hasOpenedLength, responseHolds};
-ghost use Rattle.exchange.specs.Steps.{step, isAllowed, lengthsHold, refusalBy, next, after, accepted, answer, buffer};
+ghost use Rattle.exchange.specs.Steps.{step, isAllowed, lengthsHold, refusalBy, nextBy, after, accepted, answer, buffer};
 use algorithms::Aead;
 use algorithms::Kem;
 use algorithms::Size;
@@ -224,7 +224,7 @@ impl Exchange {
 
     // What an accepted call makes of the exchange.
     fn next(self, asks: Move) -> Self
-        ensures { λ r. ⌜ r ≡ next asks self ⌝ }
+        ensures { λ r. ⌜ r ≡ nextBy asks self ⌝ }
     {
         match asks {
             Move::Open(_) => self.opened(),
