@@ -66,13 +66,13 @@ pub enum Call {
         aead: u16,
         response: Vec<u8>,
     },
+    Exporter {
+        aead: u16,
+        room: usize,
+    },
     Write {
         room: usize,
         configurations: Vec<Fields>,
-    },
-    /// Known to the subcommand `edges` alone.
-    Exporter {
-        aead: u16,
     },
 }
 
@@ -103,7 +103,12 @@ pub fn read_line(line: &[u8]) -> Line {
 fn read_call(line: &[u8]) -> Option<Call> {
     // An empty word is read as no word of any kind below.
     let words: Vec<&[u8]> = line.split(|byte| *byte == b' ').collect();
-    let call = match words.as_slice() {
+    read_gateway_call(&words).or_else(|| read_client_call(&words))
+}
+
+/// Setup and the calls to the gateway.
+fn read_gateway_call(words: &[&[u8]]) -> Option<Call> {
+    let call = match words {
         [b"setup", cap, list] => Call::Setup {
             cap: read_decimal(cap)?,
             list: read_long_bytes(list)?,
@@ -131,6 +136,14 @@ fn read_call(line: &[u8]) -> Option<Call> {
             key_id: read_id(id)?,
         },
         [b"report"] => Call::Report,
+        _ => return None,
+    };
+    Some(call)
+}
+
+/// The calls on the client side and on lists alone.
+fn read_client_call(words: &[&[u8]]) -> Option<Call> {
+    let call = match words {
         [b"check", list] => Call::Check {
             list: read_long_bytes(list)?,
         },
@@ -143,20 +156,14 @@ fn read_call(line: &[u8]) -> Option<Call> {
             kems: read_numbers(kems)?,
             pairs: read_numbers(pairs)?,
         },
-        [b"head", id, kem, kdf, aead, enc, room, info_room] => Call::Head {
-            key_id: read_id(id)?,
-            kem: read_number(kem)?,
-            pair: Pair {
-                kdf: read_number(kdf)?,
-                aead: read_number(aead)?,
-            },
-            enc: read_long_bytes(enc)?,
-            room: read_room(room, LARGEST_ROOM)?,
-            info_room: read_room(info_room, LARGEST_ROOM)?,
-        },
+        [b"head", rest @ ..] => return read_head(rest),
         [b"split", aead, response] => Call::Split {
             aead: read_number(aead)?,
             response: read_long_bytes(response)?,
+        },
+        [b"exporter", aead, room] => Call::Exporter {
+            aead: read_number(aead)?,
+            room: read_room(room, LARGEST_ROOM)?,
         },
         [b"write", room, fields @ ..] => Call::Write {
             room: read_room(room, LARGEST_WRITE_ROOM)?,
@@ -165,6 +172,21 @@ fn read_call(line: &[u8]) -> Option<Call> {
         _ => return None,
     };
     Some(call)
+}
+
+fn read_head(words: &[&[u8]]) -> Option<Call> {
+    let [id, kem, kdf, aead, enc, room, info_room] = <[&[u8]; 7]>::try_from(words).ok()?;
+    Some(Call::Head {
+        key_id: read_id(id)?,
+        kem: read_number(kem)?,
+        pair: Pair {
+            kdf: read_number(kdf)?,
+            aead: read_number(aead)?,
+        },
+        enc: read_long_bytes(enc)?,
+        room: read_room(room, LARGEST_ROOM)?,
+        info_room: read_room(info_room, LARGEST_ROOM)?,
+    })
 }
 
 /// Four words for each configuration, 17 at most.
@@ -255,7 +277,7 @@ fn read_numbers(word: &[u8]) -> Option<Vec<u16>> {
 }
 
 /// A KEM, KDF or AEAD number: exactly four hex digits.
-pub fn read_number(word: &[u8]) -> Option<u16> {
+fn read_number(word: &[u8]) -> Option<u16> {
     if word.len() != 4 {
         return None;
     }
@@ -318,6 +340,9 @@ mod tests {
             "choose 00 00100020 000100010001",
             "head 1 0020 0001 ffff - 0 256",
             "split 0001 -",
+            "exporter 0001 22",
+            "exporter ffff 0",
+            "exporter 0003 0256",
             "write 4096",
             "write 0 0 0020 - -",
             "write 0 0 0020 00 0001 255 0010 11 00010001",
@@ -345,7 +370,6 @@ mod tests {
             "\r",
             " # no comment",
             "Report",
-            "exporter 0001",
             "admit 0 29",
             "admit 0A 29",
             "admit 0g 29",
@@ -374,6 +398,16 @@ mod tests {
         ];
         for line in lines {
             assert!(!is_call(line), "{line}");
+        }
+    }
+
+    #[test]
+    fn lines_of_exporter() {
+        let call = Call::Exporter { aead: 3, room: 22 };
+        assert_eq!(read_line(b"exporter 0003 22"), Line::Call(call));
+        let bad = ["", " 0001", " 0001 257", " 0001 -", " 001 22", " 000A 22"];
+        for words in bad {
+            assert!(!is_call(&format!("exporter{words}")), "{words}");
         }
     }
 

@@ -98,9 +98,15 @@ pub fn split(aead: u16, response: &[u8]) -> Result<(&[u8], &[u8]), Refusal> {
 /// "the 22 ASCII bytes `message/bhttp response`"
 pub const EXPORTER_CONTEXT: &[u8; 22] = b"message/bhttp response";
 
-/// "the secret's length is the nonce length"; 6 for an unknown AEAD.
-pub fn exporter_secret_length(aead: u16) -> Result<usize, Refusal> {
-    response_nonce_length(aead).ok_or_else(|| refusal(6))
+/// Exporter: the secret's length, which "is the nonce length"; the context goes to the buffer's
+/// front. Order: 6 (unknown AEAD), 14.
+pub fn exporter(aead: u16, buffer: &mut [u8]) -> Result<usize, Refusal> {
+    let secret = response_nonce_length(aead).ok_or_else(|| refusal(6))?;
+    if buffer.len() < EXPORTER_CONTEXT.len() {
+        return Err(refusal(14));
+    }
+    write_front(buffer, EXPORTER_CONTEXT);
+    Ok(secret)
 }
 
 #[cfg(test)]
@@ -208,6 +214,34 @@ mod tests {
         assert_eq!(hex(nonce), "c789e7151fcba46158ca84b04464910d");
         assert_eq!(hex(ciphertext), "86f9013e404feea014e7be4a441f234f857fbd");
         // The exported secret of the example has 16 bytes.
-        assert_eq!(exporter_secret_length(1), Ok(16));
+        assert_eq!(exporter(1, &mut [0; 22]), Ok(16));
+    }
+
+    #[test]
+    fn the_exporter_context() {
+        for (aead, secret) in [(1, 16), (2, 32), (3, 32)] {
+            for room in [22, 23, 256] {
+                let mut buffer = vec![0xa5; room];
+                assert_eq!(exporter(aead, &mut buffer), Ok(secret));
+                assert_eq!(&buffer[..22], b"message/bhttp response");
+                assert!(buffer[22..].iter().all(|byte| *byte == 0xa5));
+            }
+        }
+    }
+
+    #[test]
+    fn exporter_refuses_in_order() {
+        let cases = [
+            (0, 21, 6),
+            (4, 22, 6),
+            (0xffff, 0, 6),
+            (1, 0, 14),
+            (3, 21, 14),
+        ];
+        for (aead, room, number) in cases {
+            let mut buffer = vec![0xa5; room];
+            assert_eq!(exporter(aead, &mut buffer), Err(refusal(number)));
+            assert!(buffer.iter().all(|byte| *byte == 0xa5));
+        }
     }
 }

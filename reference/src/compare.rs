@@ -187,7 +187,7 @@ mod tests {
     fn calls_and_answers() -> (Vec<u8>, Vec<String>) {
         let (mut calls, mut answers) = (Vec::new(), Vec::new());
         generate(4, 5_000, &mut calls).unwrap();
-        replay(calls.as_slice(), &mut answers, read_line).unwrap();
+        replay(calls.as_slice(), &mut answers).unwrap();
         let answers = String::from_utf8(answers).unwrap();
         (calls, answers.lines().map(str::to_string).collect())
     }

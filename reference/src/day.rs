@@ -135,7 +135,6 @@ impl Day {
 #[cfg(test)]
 mod tests {
     use super::*;
-    use crate::call::read_line;
     use crate::replay::replay;
 
     #[test]
@@ -143,7 +142,7 @@ mod tests {
         let mut calls = Vec::new();
         day(1, 20_000, &mut calls).unwrap();
         let mut answers = Vec::new();
-        replay(calls.as_slice(), &mut answers, read_line).unwrap();
+        replay(calls.as_slice(), &mut answers).unwrap();
         let answers = String::from_utf8(answers).unwrap();
         assert_eq!(answers.lines().count(), 20_000);
         let refused = answers.lines().filter(|a| a.starts_with("refused")).count();

@@ -11,7 +11,6 @@ pub mod call;
 pub mod client;
 pub mod compare;
 pub mod day;
-pub mod edges;
 pub mod gateway;
 pub mod generate;
 pub mod keeper;

@@ -2,12 +2,12 @@
 //! which `sealwax` is held against.
 
 use reference::compare::{self, cut, Difference, Summary};
-use reference::{call, day, edges, generate, replay};
+use reference::{day, generate, replay};
 use std::fs::{self, File};
 use std::io::{self, BufReader, BufWriter};
 use std::process::exit;
 
-const USAGE: &str = "usage: reference replay | edges | moved
+const USAGE: &str = "usage: reference replay | moved
        reference generate SEED CALLS
        reference day SEED CALLS
        reference compare CALLS-FILE ANSWERS-FILE [NAME] [--least N]";
@@ -32,8 +32,7 @@ fn run(words: &[&str]) -> io::Result<i32> {
     let input = BufReader::with_capacity(1 << 16, io::stdin());
     let mut output = BufWriter::with_capacity(1 << 16, io::stdout());
     match words {
-        ["replay"] => replay::replay(input, &mut output, call::read_line)?,
-        ["edges"] => replay::replay(input, &mut output, edges::read_edges_line)?,
+        ["replay"] => replay::replay(input, &mut output)?,
         ["generate", seed, calls] => {
             generate::generate(number(seed)?, number(calls)?, &mut output)?;
         }

@@ -2,7 +2,7 @@
 
 use crate::answer::{self, hex, refused, refused_with};
 use crate::call::Call;
-use crate::client::{choose, exporter_secret_length, head, split, EXPORTER_CONTEXT};
+use crate::client::{choose, exporter, head, split};
 use crate::keeper::Keeper;
 use crate::key_list::{public_key, read_list};
 use crate::list_writer::write_list;
@@ -63,6 +63,16 @@ fn perform_without_keeper(call: &Call) -> String {
         Call::Choose { list, kems, pairs } => {
             line(choose(list, kems, pairs), |chosen| answer::chosen(&chosen))
         }
+        Call::Split { aead, response } => line(split(*aead, response), |(nonce, ciphertext)| {
+            format!("split nonce={} ciphertext={}", hex(nonce), hex(ciphertext))
+        }),
+        _ => perform_with_buffers(call),
+    }
+}
+
+/// Those of them that lend buffers.
+fn perform_with_buffers(call: &Call) -> String {
+    match call {
         Call::Head {
             key_id,
             kem,
@@ -76,9 +86,13 @@ fn perform_without_keeper(call: &Call) -> String {
             let start = line(answer, |length| format!("head length={length}"));
             format!("{} buffer={} info={}", start, hex(&buffer), hex(&info))
         }
-        Call::Split { aead, response } => line(split(*aead, response), |(nonce, ciphertext)| {
-            format!("split nonce={} ciphertext={}", hex(nonce), hex(ciphertext))
-        }),
+        Call::Exporter { aead, room } => {
+            let mut buffer = lend(*room);
+            match exporter(*aead, &mut buffer) {
+                Ok(secret) => format!("exporter secret={} buffer={}", secret, hex(&buffer)),
+                Err(refusal) => refused_with(refusal, &buffer),
+            }
+        }
         Call::Write {
             room,
             configurations,
@@ -89,10 +103,6 @@ fn perform_without_keeper(call: &Call) -> String {
                 Err(refusal) => refused_with(refusal, &buffer),
             }
         }
-        Call::Exporter { aead } => line(exporter_secret_length(*aead), |length| {
-            let context = hex(EXPORTER_CONTEXT);
-            format!("exporter context={context} secret={length}")
-        }),
         _ => unreachable!("the other calls are the keeper's"),
     }
 }

@@ -32,16 +32,12 @@ impl Replay {
     }
 }
 
-/// Answers all lines of the input; `read` says what each line is.
-pub fn replay(
-    input: impl BufRead,
-    output: &mut impl Write,
-    read: fn(&[u8]) -> Line,
-) -> io::Result<()> {
+/// Answers all lines of the input.
+pub fn replay(input: impl BufRead, output: &mut impl Write) -> io::Result<()> {
     let mut lines = Lines::new(input, LONGEST_LINE);
     let mut replay = Replay::new();
     while let Some(line) = lines.read()? {
-        if let Some(mut answer) = replay.answer(&read(line)) {
+        if let Some(mut answer) = replay.answer(&read_line(line)) {
             answer.push('\n');
             output.write_all(answer.as_bytes())?;
         }
@@ -80,11 +76,10 @@ fn text(line: &[u8]) -> String {
 #[cfg(test)]
 mod tests {
     use super::*;
-    use crate::edges::read_edges_line;
 
-    fn answers(input: &str, read: fn(&[u8]) -> Line) -> String {
+    fn answers(input: &str) -> String {
         let mut output = Vec::new();
-        replay(input.as_bytes(), &mut output, read).unwrap();
+        replay(input.as_bytes(), &mut output).unwrap();
         String::from_utf8(output).unwrap()
     }
 
@@ -130,7 +125,7 @@ mod tests {
             "report last=0 pending=0 keys=-".to_string(),
         ];
         // The last line needs no newline.
-        let output = answers(&calls.join("\n"), read_line);
+        let output = answers(&calls.join("\n"));
         assert_eq!(output, expected.join("\n") + "\n");
     }
 
@@ -149,6 +144,7 @@ mod tests {
             "abandon 1",
             "retire 7",
             "check -",
+            "exporter 0001 22",
         ];
         let mut output = Vec::new();
         write_moved(calls.join("\n").as_bytes(), &mut output).unwrap();
@@ -185,7 +181,7 @@ mod tests {
             "refused 14 status=500 buffer=-",
             "",
         ];
-        assert_eq!(answers(&calls.join("\n"), read_line), expected.join("\n"));
+        assert_eq!(answers(&calls.join("\n")), expected.join("\n"));
     }
 
     #[test]
@@ -221,20 +217,35 @@ mod tests {
             "refused 15 at 0 buffer=a5".to_string(),
             String::new(),
         ];
-        assert_eq!(answers(&calls.join("\n"), read_line), expected.join("\n"));
+        assert_eq!(answers(&calls.join("\n")), expected.join("\n"));
     }
 
     #[test]
     fn the_exporter_call() {
-        let calls = "exporter 0001\nexporter 0003\nexporter ffff\n";
+        let calls = [
+            "exporter 0001 22",
+            "exporter 0002 24",
+            "exporter 0003 22",
+            "exporter 0003 21",
+            "exporter ffff 22",
+            "exporter 0000 0",
+            "exporter 0001 0",
+            "exporter 0001",
+            "exporter (00*1) 22",
+        ];
         let context = "6d6573736167652f626874747020726573706f6e7365";
-        let expected = format!(
-            "exporter context={context} secret=16\nexporter context={context} secret=32\nrefused 6\n"
-        );
-        assert_eq!(answers(calls, read_edges_line), expected);
-        assert_eq!(
-            answers(calls, read_line),
-            "bad line 1\nbad line 2\nbad line 3\n"
-        );
+        let expected = [
+            format!("exporter secret=16 buffer={context}"),
+            format!("exporter secret=32 buffer={context}a5a5"),
+            format!("exporter secret=32 buffer={context}"),
+            format!("refused 14 buffer={}", "a5".repeat(21)),
+            format!("refused 6 buffer={}", "a5".repeat(22)),
+            "refused 6 buffer=-".to_string(),
+            "refused 14 buffer=-".to_string(),
+            "bad line 8".to_string(),
+            "bad line 9".to_string(),
+            String::new(),
+        ];
+        assert_eq!(answers(&calls.join("\n")), expected.join("\n"));
     }
 }

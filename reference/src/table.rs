@@ -4,7 +4,7 @@ use crate::call::{Call, Line};
 
 /// Each call and the answers that 01 makes possible for it. An abandon is never refused with 12,
 /// since it is allowed from asked and from opened.
-pub const POSSIBLE: [(&str, &[&str]); 14] = [
+pub const POSSIBLE: [(&str, &[&str]); 15] = [
     ("setup", &["ready", "15", "17"]),
     (
         "admit",
@@ -22,6 +22,7 @@ pub const POSSIBLE: [(&str, &[&str]); 14] = [
     ("choose", &["chosen", "15", "13", "16"]),
     ("head", &["head", "3", "6", "13", "14"]),
     ("split", &["split", "6", "1", "2"]),
+    ("exporter", &["exporter", "6", "14"]),
     ("write", &["written", "15", "14"]),
     ("bad line", &["bad"]),
 ];
@@ -111,7 +112,7 @@ pub fn name(call: &Call) -> &'static str {
         Call::Choose { .. } => "choose",
         Call::Head { .. } => "head",
         Call::Split { .. } => "split",
-        Call::Write { .. } => "write",
         Call::Exporter { .. } => "exporter",
+        Call::Write { .. } => "write",
     }
 }

@@ -10,13 +10,12 @@ mod raw;
 use common::{edges, generated, OnFailure, SEEDS};
 use raw::Outcome;
 use reference::call::Call;
-use reference::client::{choose, exporter_secret_length, head, split, EXPORTER_CONTEXT};
+use reference::client::{choose, exporter, head, split, EXPORTER_CONTEXT};
 use reference::gateway::Gateway;
 use reference::keeper::{Keeper, Opening};
 use reference::key_list::{public_key, read_list};
 use reference::list_writer::{write_list, Fields};
-use reference::refusal::{is_key_problem, refusal, status, Refusal};
-use reference::request::write_front;
+use reference::refusal::{is_key_problem, status, Refusal};
 use reference::table::{name, POSSIBLE};
 use sealwax as _;
 use std::collections::{BTreeMap, BTreeSet};
@@ -278,7 +277,7 @@ fn without_gateway(call: &Call) -> Outcome {
             room,
             configurations,
         } => compare_write(*room, configurations),
-        Call::Exporter { aead } => compare_exporter(*aead, EXPORTER_CONTEXT.len()),
+        Call::Exporter { aead, room } => compare_exporter(*aead, *room),
         _ => unreachable!("the other calls are the gateway's"),
     }
 }
@@ -356,18 +355,12 @@ fn compare_write(room: usize, configurations: &[Fields]) -> Outcome {
     outcome
 }
 
-/// The reference's exporter lends no buffer: 14 is said here.
 fn compare_exporter(aead: u16, room: usize) -> Outcome {
     let (mut context, mut expected_context) = lend(room);
     let given = raw::exporter(aead, context.buffer());
-    let answer = exporter_secret_length(aead).and_then(|length| {
-        if room < EXPORTER_CONTEXT.len() {
-            return Err(refusal(14));
-        }
-        write_front(expected_context.buffer(), EXPORTER_CONTEXT);
-        Ok((EXPORTER_CONTEXT.len(), length))
-    });
-    let (outcome, (context_length, secret_length)) = expect(answer);
+    let answer = exporter(aead, expected_context.buffer());
+    let (outcome, (context_length, secret_length)) =
+        expect(answer.map(|secret| (EXPORTER_CONTEXT.len(), secret)));
     let expected = raw::ExporterResult {
         outcome,
         context_length,

@@ -327,12 +327,13 @@ fn without_gateway(call: &Call) {
             room,
             configurations,
         } => compare_write(*room, configurations),
-        Call::Exporter { aead } => {
-            let expected = reference::client::exporter_secret_length(*aead);
+        Call::Exporter { aead, .. } => {
+            let mut context = [0; 22];
+            let expected = reference::client::exporter(*aead, &mut context);
             let given = sealwax::exporter(*aead);
             same(
                 given.map(|exporter| (exporter.context, exporter.secret_length)),
-                expected.map(|length| (*reference::client::EXPORTER_CONTEXT, length)),
+                expected.map(|secret| (context, secret)),
             );
         }
         _ => unreachable!("the other calls are the gateway's"),

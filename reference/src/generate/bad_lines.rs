@@ -33,6 +33,8 @@ const FIXED: &[&str] = &[
     "Report",
     "reports",
     "exporter 0001",
+    "exporter 0001 257",
+    "exporter 1 22",
     "admit - 257",
     "admit - 18446744073709551616",
     "key - 256",

@@ -6,6 +6,7 @@ use super::key_lists::{
 };
 use crate::algorithms::{nenc, response_nonce_length, HEAD_LENGTH};
 use crate::answer::hex;
+use crate::client::EXPORTER_CONTEXT;
 use crate::key_list::{read_list, Configuration};
 use crate::list_writer::{encode, Fields};
 use crate::random::Random;
@@ -115,12 +116,13 @@ pub fn head(random: &mut Random) -> String {
         number(random),
         number(random),
         hex(&random.bytes(enc)),
-        head_room(random, HEAD_LENGTH + right),
-        head_room(random, 29)
+        room_around(random, HEAD_LENGTH + right),
+        room_around(random, 29)
     )
 }
 
-fn head_room(random: &mut Random, enough: usize) -> usize {
+/// Just enough room most of the time.
+fn room_around(random: &mut Random, enough: usize) -> usize {
     match random.below(12) {
         0 => enough - 1,
         1 => enough + 1,
@@ -128,6 +130,11 @@ fn head_room(random: &mut Random, enough: usize) -> usize {
         3 => random.below(257),
         _ => enough,
     }
+}
+
+pub fn exporter(random: &mut Random) -> String {
+    let room = room_around(random, EXPORTER_CONTEXT.len());
+    format!("exporter {:04x} {room}", number(random))
 }
 
 pub fn split(random: &mut Random) -> String {

@@ -141,7 +141,8 @@ impl<W: Write> Generator<'_, W> {
             71..=74 => client_calls::check(random, key_list),
             75..=78 => client_calls::key(random, key_list),
             79..=84 => client_calls::choose(random, key_list),
-            85..=89 => client_calls::head(random),
+            85..=88 => client_calls::head(random),
+            89 => client_calls::exporter(random),
             90..=94 => client_calls::split(random),
             _ => client_calls::write(random, key_list),
         }

@@ -1,7 +1,6 @@
 //! Call lists for both tests: the reference's generated ones, and the edges.
 
 use reference::call::{read_line, Call, Line};
-use reference::edges::read_edges_line;
 use reference::generate::generate;
 
 /// The same calls in every run.
@@ -13,22 +12,19 @@ pub const CALLS: u64 = 100_000;
 pub fn generated(seed: u64) -> Vec<Call> {
     let mut text = Vec::new();
     generate(seed, CALLS, &mut text).expect("a Vec takes every byte");
-    read(&text, read_line)
+    read(&text)
 }
 
 /// The edges of 01 and the example of RFC 9458, Appendix A.
 pub fn edges() -> Vec<Call> {
-    read(
-        include_bytes!("../../../../crates/edges/calls"),
-        read_edges_line,
-    )
+    read(include_bytes!("../../../../crates/sealwax/stdin"))
 }
 
 /// Lines that are no calls have no counterpart in a library.
-fn read(text: &[u8], read: fn(&[u8]) -> Line) -> Vec<Call> {
+fn read(text: &[u8]) -> Vec<Call> {
     let lines = text.split(|byte| *byte == b'\n');
     lines
-        .filter_map(|line| match read(line) {
+        .filter_map(|line| match read_line(line) {
             Line::Call(call) => Some(call),
             Line::Bad | Line::PassedOver => None,
         })
