@@ -7,6 +7,9 @@ use Rattle.exchange.proofs.Exchange.next.Tie as tie
 returns : tie.Need-returns
 returns c = cc
 
+returns-2 : tie.Need-returns-2
+returns-2 c = search needs
+
 pub next-spec : {M : Type 1} → statement M
 next-spec =
     tie.close
@@ -20,6 +23,6 @@ next-spec =
     (λ c. search needs)
     (λ c κs. search needs)
     returns
-    (λ c. search needs)
+    returns-2
     (λ c. search needs)
     (λ c. search needs))
