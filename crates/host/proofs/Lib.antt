@@ -2,5 +2,7 @@
 pub mod Applied
 pub mod Arrays
 pub mod Elements
+pub mod Exported
 pub mod Exporting
+pub mod Frames
 pub mod Layouts
