@@ -4,5 +4,6 @@ pub mod Arrays
 pub mod Elements
 pub mod Exported
 pub mod Exporting
-pub mod Frames
 pub mod Layouts
+pub mod Locals
+pub mod Parameters
