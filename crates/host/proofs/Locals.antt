@@ -56,6 +56,10 @@ module _ {M : Type 1} (𝓤 : URA M) (H : Heap 𝓤) where
   behind [] bs E i σs cs at = at
   behind (τ ∷ τs) bs E i σs cs at = one-more (τ, bs .0) (entries τs (bs .1) ++ E) (past τs i) σs cs (behind τs (bs .1) E i σs cs at)
 
+  pub one-behind : (τs : List Ty) (bs : Blocks τs) (E : Env 𝓤 H) (i : ℕ) {τ : Ty} {b : ℕ} → getD E i (noLocal 𝓤 H) ≡ (τ, b)
+      → getD (entries τs bs ++ E) (past τs i) (noLocal 𝓤 H) ≡ (τ, b)
+  one-behind τs bs E i {τ} {b} at = behind τs bs E i (τ ∷ []) (b, tt) (at, tt) .0
+
   -- ---- what is in them: room, or a value in each
   abbrev pub rooms : (τs : List Ty) → Blocks τs → Item 𝓤
   rooms [] bs = ‵ ftrue
@@ -76,14 +80,18 @@ module _ {M : Type 1} {𝓤 : URA M} {H : Heap 𝓤} {A : Atoms 𝓤} {K : Type 
   -- operands may be read with entry n of the context brought to its head, and with the head taken apart
   pub read-first : K → {Γ : List (Item 𝓤)} (n : ℕ) {E : Env 𝓤 H} {xs : List Operand} {vs : List Val}
       → Opds K W (nth 𝓤 H A n Γ ∷ del 𝓤 H A n Γ) E xs vs → Opds K W Γ E xs vs
-  read-first t {Γ} n os = record { go = λ Kt h.
-      via 𝓤 _ (pull 𝓤 H A n Γ) (via 𝓤 _ (push 𝓤 H A (nth 𝓤 H A n Γ) (del 𝓤 H A n Γ)) (os .go Kt
-      (via 𝓤 _ (pop 𝓤 H A (nth 𝓤 H A n Γ) (del 𝓤 H A n Γ)) (via 𝓤 _ (unpull 𝓤 H A n Γ) h)))) }
+  read-first t {Γ} n os = record {
+    go = λ Kt h.
+        via 𝓤 _ (pull 𝓤 H A n Γ) (via 𝓤 _ (push 𝓤 H A (nth 𝓤 H A n Γ) (del 𝓤 H A n Γ)) (os .go Kt
+        (via 𝓤 _ (pop 𝓤 H A (nth 𝓤 H A n Γ) (del 𝓤 H A n Γ)) (via 𝓤 _ (unpull 𝓤 H A n Γ) h))));
+  }
 
   pub read-split : K → {Γ : List (Item 𝓤)} {i j : Item 𝓤} {E : Env 𝓤 H} {xs : List Operand} {vs : List Val}
       → Opds K W (i ∷ j ∷ Γ) E xs vs → Opds K W ((i ⊛ j) ∷ Γ) E xs vs
-  read-split t {Γ} {i} {j} os = record { go = λ Kt h.
-      via 𝓤 _ (qed W ((i ⊛ j) ∷ Γ) ∵ split ! $ done !) (os .go Kt (via 𝓤 _ (qed W (i ∷ j ∷ Γ) ∵ join ! $ done !) h)) }
+  read-split t {Γ} {i} {j} os = record {
+    go = λ Kt h.
+        via 𝓤 _ (qed W ((i ⊛ j) ∷ Γ) ∵ split ! $ done !) (os .go Kt (via 𝓤 _ (qed W (i ∷ j ∷ Γ) ∵ join ! $ done !) h));
+  }
 
   pub read-same : K → {Γ : List (Item 𝓤)} {E : Env 𝓤 H} {xs : List Operand} {vs us : List Val} → vs ≡ us → Opds K W Γ E xs vs → Opds K W Γ E xs us
   read-same t {Γ} {E} {xs} same os = subst (λ (ws : List Val). Opds K W Γ E xs ws) same os

@@ -1,25 +1,17 @@
--- `host::gateway_calls::sealwax_respond` meets its contract, by the law for exported calls.
--- Assumes nothing.
+-- `host::gateway_calls::sealwax_respond` meets its contract, by the law for exported calls. Assumes nothing.
 use Rattle.exchange.specs.Steps.{respond}
 use Rattle.gateway.specs.Calls.{onTicket}
 use Rattle.host.specs.Calls.{respondResult}
-use Rattle.host.proofs.Exported.{Export, law, buffer, bytes, u64, [], _∷_}
+use Rattle.host.proofs.Exported.{law, export-of, buffer, bytes, u64, [], _∷_}
 use Rattle.host.proofs.gateway_calls.RespondResult as Result
 use Rattle.host.proofs.gateway_calls.Responding as Done
 use Rattle.host.proofs.gateway_calls.respond_of as step
 use Rattle.host.proofs.gateway_calls.sealwax_respond as export
 
-abbrev told : Export
-told = record {
-  parameters = u64 ∷ bytes ∷ bytes ∷ u64 ∷ buffer ∷ [];
-  call = λ ticket enc nonce plain salt. onTicket ticket (respond enc nonce plain salt);
-  result = respondResult;
-  Result = Result.the-type; laws = Result.Laws.the-laws; plain-data = Result.Laws.the-plain;
-  name = Done.struct .name; Done = Done.struct .D; parts = Done.struct .as-values; is-parts = Done.the-type .to-one;
-}
-
 pub sealwax-respond-spec : {M : Type 1} → export.Statement.statement M
 unfolding export.Code.routine
 sealwax-respond-spec 𝓤 H 𝓜 𝓖 𝓡 =
-    law told 𝓤 H 𝓜 𝓖 𝓡 export.Code.env export.Key.name step.Symbol.name (export.Code.unfolded 𝓤 H 𝓜 𝓡) export.Code.calls-host·change·apply
+    law (export-of Result.the-type Result.Laws.the-laws Result.Laws.the-plain (Done.struct .name) (Done.struct .as-values) (Done.the-type .to-one)
+    (u64 ∷ bytes ∷ bytes ∷ u64 ∷ buffer ∷ []) (λ ticket enc nonce plain salt. onTicket ticket (respond enc nonce plain salt)) respondResult) 𝓤 H 𝓜 𝓖 𝓡
+    export.Code.env export.Key.name step.Symbol.name (export.Code.unfolded 𝓤 H 𝓜 𝓡) export.Code.calls-host·change·apply
     step.Symbol.routine export.Code.calls-host·gateway-calls·respond-of (step.Met.met 𝓤 H 𝓜 𝓖 𝓡)
