@@ -91,73 +91,44 @@ use Rattle.host.proofs.change.apply.Met as apply-met
 abbrev done-fields : Declared → List Field
 done-fields Result = C.the-field ∷ as-field Result ∷ []
 
--- ---- what tells one export from another
-pub record Export : Type 2 where
-  pub Result : Declared
-  pub laws : LL.Laws Result
-  pub plain-data : Plains (fields Result)
-  -- Done: its name and values, its two fields, and that it is no more than these
-  pub name : Sym
-  pub Done : Type 0
-  pub parts : Done → Change × (Result .D × Unit {0})
-  pub is-parts : (x y : Done) → intos (done-fields Result) (parts x) ≡ intos (done-fields Result) (parts y) → x ≡ y
-  pub parameters : List Parameter
-  pub call : Takes parameters Call
-  pub result : Answer → Result .D
-
-abbrev pub export-of : (Result : Declared) → LL.Laws Result → Plains (fields Result)
-    → (name : Sym) {Done : Type 0} (parts : Done → Change × (Result .D × Unit {0}))
-    → ((x y : Done) → intos (done-fields Result) (parts x) ≡ intos (done-fields Result) (parts y) → x ≡ y)
-    → (parameters : List Parameter) → Takes parameters Call → (Answer → Result .D) → Export
-export-of Result laws plain-data name {Done} parts is-parts parameters call result = record {
-  Result = Result;
-  laws = laws;
-  plain-data = plain-data;
-  name = name;
-  Done = Done;
-  parts = parts;
-  is-parts = is-parts;
-  parameters = parameters;
-  call = call;
-  result = result;
-}
-
-module _ (X : Export) where
-  abbrev ps : List Parameter
-  ps = X .parameters
-
+-- What tells one export from another: Result, with its laws; Done, by its name, its two fields, and that it is no more than these; the parameters; the
+-- call that they make; what of its answer is the result
+module _ (Result : Declared) (result-laws : LL.Laws Result) (result-plain : Plains (fields Result))
+    (name : Sym) {Done : Type 0} (parts : Done → Change × (Result .D × Unit {0}))
+    (is-parts : (x y : Done) → intos (done-fields Result) (parts x) ≡ intos (done-fields Result) (parts y) → x ≡ y)
+    (ps : List Parameter) (call : Takes ps Call) (result : Answer → Result .D) where
   -- its slices' lifetimes; the call has one more, the gateway's
   abbrev n : ℕ
   n = lifetimes ps
 
   -- ---- the types of the result and of Done
   abbrev result-row : RattleType
-  result-row = row (X .Result)
+  result-row = row Result
 
-  abbrev result-values : X .Result .D → List Val
-  result-values = LL.vals (X .Result) (X .laws)
+  abbrev result-values : Result .D → List Val
+  result-values = LL.vals Result result-laws
 
   abbrev Done-type : Declared
   Done-type = record {
-    name = X .name;
+    name = name;
     args = [];
-    parts = done-fields (X .Result);
-    D = X .Done;
-    to = λ d. intos (done-fields (X .Result)) (X .parts d);
-    to-one = X .is-parts;
+    parts = done-fields Result;
+    D = Done;
+    to = λ d. intos (done-fields Result) (parts d);
+    to-one = is-parts;
   }
 
-  abbrev lowered : LL.Lowered (X .Result)
-  lowered = record { mir = layout (shape (X .Result)); lowered = LL.val (X .Result) (X .laws); layout-is = refl; val-is = LL.tells (X .Result) (X .laws) }
+  abbrev lowered : LL.Lowered Result
+  lowered = record { mir = layout (shape Result); lowered = LL.val Result result-laws; layout-is = refl; val-is = LL.tells Result result-laws }
 
   abbrev done-laws : LL.Laws Done-type
-  done-laws = (C′.the-field-laws, (LL.field-laws (X .Result) (X .laws) lowered, tt))
+  done-laws = (C′.the-field-laws, (LL.field-laws Result result-laws lowered, tt))
 
-  abbrev change-in : X .Done → Change
-  change-in d = X .parts d .0
+  abbrev change-in : Done → Change
+  change-in d = parts d .0
 
-  abbrev result-in : X .Done → X .Result .D
-  result-in d = X .parts d .1 .0
+  abbrev result-in : Done → Result .D
+  result-in d = parts d .1 .0
 
   -- ---- the contracts of the call and of x_of
   abbrev params : List (Slot (suc n))
@@ -194,7 +165,7 @@ module _ (X : Export) where
     ghost = Unit {0};
     requires = λ g. emp 𝓤;
     ensures = λ g r end.
-        fact 𝓤 (Does (X .result) (passed (suc n) κs 1 ps (X .call) (a .1)) (a .0 .now) (end .0 .now) r (written (suc n) κs 1 ps (end .1)));
+        fact 𝓤 (Does result (passed (suc n) κs 1 ps call (a .1)) (a .0 .now) (end .0 .now) r (written (suc n) κs 1 ps (end .1)));
   }
 
   abbrev pub step-clauses : {M : Type 1} (𝓤 : URA M) → Clauses 𝓤 step-ended
@@ -202,12 +173,12 @@ module _ (X : Export) where
     ghost = Unit {0};
     requires = λ g. emp 𝓤;
     ensures = λ g d end.
-        fact 𝓤 (Changes (X .result) (passed n κs 0 ps (X .call) (a .1)) (a .0) (change-in d) (result-in d) (written n κs 0 ps (end .1)));
+        fact 𝓤 (Changes result (passed n κs 0 ps call (a .1)) (a .0) (change-in d) (result-in d) (written n κs 0 ps (end .1)));
   }
 
   -- ---- the code
   abbrev result-type : Ty
-  result-type = layout (shape (X .Result))
+  result-type = layout (shape Result)
 
   abbrev done-type : Ty
   done-type = layout (shape Done-type)
@@ -310,30 +281,30 @@ module _ (X : Export) where
       Left = Fins (κs .1) step-params step-kept (args .1)
 
       abbrev step-call : Call
-      step-call = passed n (κs .1) 0 ps (X .call) (args .1)
+      step-call = passed n (κs .1) 0 ps call (args .1)
 
-      abbrev Said : X .Done → Left → Type 0
-      Said d ws = Changes (X .result) step-call before (change-in d) (result-in d) (written n (κs .1) 0 ps (outs (κs .1) step-params step-kept (args .1) ws))
+      abbrev Said : Done → Left → Type 0
+      Said d ws = Changes result step-call before (change-in d) (result-in d) (written n (κs .1) 0 ps (outs (κs .1) step-params step-kept (args .1) ws))
 
       goes-step : ent 𝓤 (⋆ 𝓤 H A (raw Tokens ∷ ‵ (owns (T.the-row ∷ rows n (κs .1) 0 ps) args arg-values) ∷ [])) (Step .pre to-step)
       goes-step = qed W (raw Tokens ∷ ‵ (owns (T.the-row ∷ rows n (κs .1) 0 ps) args arg-values) ∷ []) ∵ join ! $ frame ! $ by ! (id⊢ 𝓤 (emp 𝓤))
 
-      exits : (d : X .Done) (after : Gateway) (ws : Left) → Is result-row (result-in d) (result-values (result-in d)) → Said d ws
+      exits : (d : Done) (after : Gateway) (ws : Left) → Is result-row (result-in d) (result-values (result-in d)) → Said d ws
           → after ≡ changed (change-in d) before
           → ent 𝓤 (⋆ 𝓤 H A (‵ (fres (a .0 .name) (T.the-row .coded .code after)) ∷ ‵ (flft (κs .0) (qs .0)) ∷ raw Tokens
-          ∷ ‵ (lastsOf (κs .1) step-params step-kept (args .1) ws) ∷ [])) (Post (LL.val (X .Result) (X .laws) (result-in d)))
+          ∷ ‵ (lastsOf (κs .1) step-params step-kept (args .1) ws) ∷ [])) (Post (LL.val Result result-laws (result-in d)))
       exits d after ws is said is-after =
           let ws′ : Fins κs params params-kept (a .1) = back n κs 0 ps (a .1) ws in
-          let does = applied (X .result) step-call before after (change-in d) (result-in d) _ said is-after in
-          let at-exit = subst (λ (bytes : List ℕ). Does (X .result) step-call before after (result-in d) bytes) (same-written n κs 0 ps (a .1) ws) does in
+          let does = applied result step-call before after (change-in d) (result-in d) _ said is-after in
+          let at-exit = subst (λ (bytes : List ℕ). Does result step-call before after (result-in d) bytes) (same-written n κs 0 ps (a .1) ws) does in
           qed W (‵ (fres (a .0 .name) (T.the-row .coded .code after)) ∷ ‵ (flft (κs .0) (qs .0)) ∷ raw Tokens
           ∷ ‵ (lastsOf (κs .1) step-params step-kept (args .1) ws) ∷ []) ∵
-          suffices ! _ (ends-at 𝓤 H A ended stayed (clauses 𝓤) W ((κs, qs, tt, a, at), tt) (LL.val (X .Result) (X .laws) (result-in d)) (result-in d)
+          suffices ! _ (ends-at 𝓤 H A ended stayed (clauses 𝓤) W ((κs, qs, tt, a, at), tt) (LL.val Result result-laws (result-in d)) (result-in d)
           (after, ws′) (tt, given-up-fit κs params params-kept (a .1) ws′)) $
-          says ! (subst (λ (c : Call). Does (X .result) c before after (result-in d) (written (suc n) κs 1 ps (outs κs params params-kept (a .1) ws′)))
-          (same-passed n κs 0 ps (X .call) (a .1)) at-exit) $
+          says ! (subst (λ (c : Call). Does result c before after (result-in d) (written (suc n) κs 1 ps (outs κs params params-kept (a .1) ws′)))
+          (same-passed n κs 0 ps call (a .1)) at-exit) $
           move ! (1 ∷ 2 ∷ []) $ join ! $ frame ! $ rewrite ! 1 (λ (P : Fml). ‵ P) (same-lasts n κs 0 ps (a .1) ws (at .1)) refl $ fjoin ! $
-          owned ! result-row (Is result-row) ((LL.makes (X .Result) (X .plain-data)) 𝓤 H A) (result-in d) _ is $ move ! (1 ∷ 0 ∷ []) $ done !
+          owned ! result-row (Is result-row) ((LL.makes Result result-plain) 𝓤 H A) (result-in d) _ is $ move ! (1 ∷ 0 ∷ []) $ done !
 
       module _ (step : Name) (Cs : Calls 𝓤 H) (Λ : Loops 𝓤 H) (fm : FmC 𝓤 H (W .laws) Cs)
           (step-meets : Triple 𝓤 (Cs step) Step) (apply-meets : Triple 𝓤 (Cs apply-symbol.name) (Apply 𝓤 H A at-mem run)) where
@@ -401,7 +372,7 @@ module _ (X : Export) where
             -- [the gateway's last value; the token; the other tokens; what is left of the parameters; the parameters; what lends them again; the other locals]
             -- the result is read, and the locals are freed
             assigns ! (of-opd ! (load ! (from-at ! is-done (fld ! refl (stop !))) (look-in ! 12 (sub ! 1 refl (whole !))))) (from ! (stop !))
-            (init ! 16 refl (LL.lawful (X .Result) (X .laws) 𝓤 H A W .typed (result-in d) _ (parts-are .1 .0) .0)) $
+            (init ! 16 refl (LL.lawful Result result-laws 𝓤 H A W .typed (result-in d) _ (parts-are .1 .0) .0)) $
             returns ! (look ! 16 refl) $ forget ! 6 refl $ forget ! 8 refl $ forget ! 10 refl $ forget ! 12 refl $ forget ! 14 refl $ forget ! 16 refl $
             move ! (16 ∷ 17 ∷ []) $ free1 ! $ move ! (14 ∷ 15 ∷ []) $ free1 ! $ move ! (4 ∷ []) $ free-all ! passed-types bs vs typed-vs E-more $
             move ! (11 ∷ 12 ∷ []) $ free1 ! $ move ! (9 ∷ 10 ∷ []) $ free1 ! $ move ! (4 ∷ []) $ free-all ! again-types ls again-vs typed-again E-last $

@@ -2,7 +2,7 @@
 use Rattle.exchange.specs.Steps.{abandon}
 use Rattle.gateway.specs.Calls.{onTicket}
 use Rattle.host.specs.Calls.{outcomeOf}
-use Rattle.host.proofs.Exported.{law, export-of, u64, [], _∷_}
+use Rattle.host.proofs.Exported.{law, u64, [], _∷_}
 use Rattle.host.proofs.outcome.Outcome as Result
 use Rattle.host.proofs.gateway_calls.Closing as Done
 use Rattle.host.proofs.gateway_calls.abandon_of as step
@@ -11,7 +11,7 @@ use Rattle.host.proofs.gateway_calls.sealwax_abandon as export
 pub sealwax-abandon-spec : {M : Type 1} → export.Statement.statement M
 unfolding export.Code.routine
 sealwax-abandon-spec 𝓤 H 𝓜 𝓖 𝓡 =
-    law (export-of Result.the-type Result.Laws.the-laws Result.Laws.the-plain (Done.struct .name) (Done.struct .as-values) (Done.the-type .to-one)
-    (u64 ∷ []) (λ ticket. onTicket ticket abandon) outcomeOf) 𝓤 H 𝓜 𝓖 𝓡
+    law Result.the-type Result.Laws.the-laws Result.Laws.the-plain (Done.struct .name) (Done.struct .as-values) (Done.the-type .to-one)
+    (u64 ∷ []) (λ ticket. onTicket ticket abandon) outcomeOf 𝓤 H 𝓜 𝓖 𝓡
     export.Code.env export.Key.name step.Symbol.name (export.Code.unfolded 𝓤 H 𝓜 𝓡) export.Code.calls-host·change·apply
     step.Symbol.routine export.Code.calls-host·gateway-calls·abandon-of (step.Met.met 𝓤 H 𝓜 𝓖 𝓡)

@@ -4,7 +4,7 @@ use lib.Dec.{eqb}
 use Rattle.exchange.specs.Steps.{openResult}
 use Rattle.gateway.specs.Calls.{onTicket}
 use Rattle.host.specs.Calls.{openedResult}
-use Rattle.host.proofs.Exported.{law, export-of, u64, u8, [], _∷_}
+use Rattle.host.proofs.Exported.{law, u64, u8, [], _∷_}
 use Rattle.host.proofs.gateway_calls.OpenResult as Result
 use Rattle.host.proofs.gateway_calls.Opening as Done
 use Rattle.host.proofs.gateway_calls.open_of as step
@@ -13,7 +13,7 @@ use Rattle.host.proofs.gateway_calls.sealwax_open as export
 pub sealwax-open-spec : {M : Type 1} → export.Statement.statement M
 unfolding export.Code.routine
 sealwax-open-spec 𝓤 H 𝓜 𝓖 𝓡 =
-    law (export-of Result.the-type Result.Laws.the-laws Result.Laws.the-plain (Done.struct .name) (Done.struct .as-values) (Done.the-type .to-one)
-    (u64 ∷ u8 ∷ u64 ∷ []) (λ ticket success n. onTicket ticket (openResult (not (eqb success 0)) n)) openedResult) 𝓤 H 𝓜 𝓖 𝓡
+    law Result.the-type Result.Laws.the-laws Result.Laws.the-plain (Done.struct .name) (Done.struct .as-values) (Done.the-type .to-one)
+    (u64 ∷ u8 ∷ u64 ∷ []) (λ ticket success n. onTicket ticket (openResult (not (eqb success 0)) n)) openedResult 𝓤 H 𝓜 𝓖 𝓡
     export.Code.env export.Key.name step.Symbol.name (export.Code.unfolded 𝓤 H 𝓜 𝓡) export.Code.calls-host·change·apply
     step.Symbol.routine export.Code.calls-host·gateway-calls·open-of (step.Met.met 𝓤 H 𝓜 𝓖 𝓡)

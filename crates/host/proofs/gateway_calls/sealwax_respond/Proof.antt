@@ -2,7 +2,7 @@
 use Rattle.exchange.specs.Steps.{respond}
 use Rattle.gateway.specs.Calls.{onTicket}
 use Rattle.host.specs.Calls.{respondResult}
-use Rattle.host.proofs.Exported.{law, export-of, buffer, bytes, u64, [], _∷_}
+use Rattle.host.proofs.Exported.{law, buffer, bytes, u64, [], _∷_}
 use Rattle.host.proofs.gateway_calls.RespondResult as Result
 use Rattle.host.proofs.gateway_calls.Responding as Done
 use Rattle.host.proofs.gateway_calls.respond_of as step
@@ -11,7 +11,7 @@ use Rattle.host.proofs.gateway_calls.sealwax_respond as export
 pub sealwax-respond-spec : {M : Type 1} → export.Statement.statement M
 unfolding export.Code.routine
 sealwax-respond-spec 𝓤 H 𝓜 𝓖 𝓡 =
-    law (export-of Result.the-type Result.Laws.the-laws Result.Laws.the-plain (Done.struct .name) (Done.struct .as-values) (Done.the-type .to-one)
-    (u64 ∷ bytes ∷ bytes ∷ u64 ∷ buffer ∷ []) (λ ticket enc nonce plain salt. onTicket ticket (respond enc nonce plain salt)) respondResult) 𝓤 H 𝓜 𝓖 𝓡
+    law Result.the-type Result.Laws.the-laws Result.Laws.the-plain (Done.struct .name) (Done.struct .as-values) (Done.the-type .to-one)
+    (u64 ∷ bytes ∷ bytes ∷ u64 ∷ buffer ∷ []) (λ ticket enc nonce plain salt. onTicket ticket (respond enc nonce plain salt)) respondResult 𝓤 H 𝓜 𝓖 𝓡
     export.Code.env export.Key.name step.Symbol.name (export.Code.unfolded 𝓤 H 𝓜 𝓡) export.Code.calls-host·change·apply
     step.Symbol.routine export.Code.calls-host·gateway-calls·respond-of (step.Met.met 𝓤 H 𝓜 𝓖 𝓡)
