@@ -80,9 +80,9 @@ use Rattle.host.proofs.Locals.{alloc-all, pass-all, free-all}
 pub use Rattle.host.proofs.Parameters.{u8, u16, u32, u64, bytes, buffer}
 use Rattle.host.proofs.Parameters.{Parameter, lifetimes, types-of, slots, kept, rows, spelled, told, valued, values, typed}
 use Rattle.host.proofs.Parameters.{Takes, passed, written}
-use Rattle.host.proofs.Handing.{given-up, given-up-fit, given-up-go, on, back, same-values, same-owns, same-passed, same-written, same-lasts}
+use Rattle.host.proofs.Handing.{on, back, same-values, same-owns, same-passed, same-written, same-lasts}
 use Rattle.host.proofs.Handing.{lent-types, lent-values, lent-typed, lending, operands, lends, handed}
-use Rattle.host.proofs.Walking.{returned, framed, proved}
+use Rattle.host.proofs.Walking.{given-up, given-up-fit, given-up-go, returned, framed, proved}
 use Rattle.host.proofs.change.apply as apply
 use Rattle.host.proofs.change.apply.Symbol as apply-symbol
 use Rattle.host.proofs.change.apply.Met as apply-met

@@ -10,7 +10,7 @@ use mir.Syntax.{Ty, w8, tyInt, tyRef, mut, erased, Opd as Operand, Body, place, 
 use mir.Val.{Val, vint, vptr}
 use base.Fml.{Fml, ftrue, fsep}
 use prog.Wp.{Heap, Env, Calls, Loops}
-use ghost.Atoms.{Atoms, sem}
+use ghost.Atoms.{Atoms}
 use contract.Lifetimes.{Lfts}
 use types.Kit.{Given, Item, Post, runs, Step, step, _$_, move, join, split}
 use types.Run.{Opds, look, init, stop, hop, fld, load, addr, and-then, no-more, assigns}
@@ -18,29 +18,13 @@ use types.Part.{whole, sub, look-in, agg}
 use denote.RattleType.{Denots, Valss, owns}
 use denote.Laws.{Typed}
 use denote.Slice.{sliceTy, sliceVal}
-use denote.Signature.{Slot, typesAt}
-use denote.Triple.End.{Kepts, Fins, outs, lastsOf}
-use denote.Triple.Walked.{Stays, fitsOf, hasOf, AllGo}
+use denote.Triple.End.{Fins, outs, lastsOf}
+use denote.Triple.Walked.{hasOf}
 use denote.Exit.{yes, left}
 use Rattle.host.proofs.Locals.{Blocks, Spots, rooms, cells, from-at, read-first, read-split}
-use Rattle.host.proofs.Parameters.{Parameter, number, bytes, buffer, types-of, row-of, value-of, slots, kept, rows, valued, values, Takes, passed, written}
-
--- ---- the body gives them up: of each there is at exit what the contract says of it
-module _ {n : ℕ} where
-  abbrev pub given-up : (ss : List (Slot n)) (ks : Kepts ss) → Stays ss ks
-  given-up [] ks = tt
-  given-up (s ∷ ss) ks = (record { fit = λ κs x f. Unit {0}; has = λ κs x f vs. left (s .row κs .exit (ks .0)) x f }, given-up ss (ks .1))
-
-  pub given-up-fit : (κs : Lfts n) (ss : List (Slot n)) (ks : Kepts ss) (a : Denots (typesAt ss κs)) (ws : Fins κs ss ks a)
-      → fitsOf κs ss ks (given-up ss ks) a ws
-  given-up-fit κs [] ks a ws = tt
-  given-up-fit κs (s ∷ ss) ks a ws = (tt, given-up-fit κs ss (ks .1) (a .1) (ws .1))
-
-pub given-up-go : {M : Type 1} (𝓤 : URA M) (H : Heap 𝓤) (A : Atoms 𝓤) (W : Given 𝓤 H A) (n : ℕ) (ss : List (Slot n)) (ks : Kepts ss)
-    → AllGo 𝓤 H A W n ss ks (given-up ss ks)
-given-up-go 𝓤 H A W n [] ks = tt
-given-up-go 𝓤 H A W n (s ∷ ss) ks =
-    ((λ κs x f vs fits. W .laws .⇛-intro (sem 𝓤 H A (left (s .row κs .exit (ks .0)) x f))), given-up-go 𝓤 H A W n ss (ks .1))
+use Rattle.host.proofs.Parameters.{Parameter, number, bytes, buffer, types-of, row-of, value-of, slots, kept, rows, valued, values}
+use Rattle.host.proofs.Parameters.{Takes, passed, written}
+use Rattle.host.proofs.Walking.{given-up}
 
 -- ---- what they are in the call, and in the function that it asks
 module _ (n : ℕ) (κs : Lfts (suc n)) where
