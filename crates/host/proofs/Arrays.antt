@@ -3,7 +3,7 @@
 use mathlib.Core.Path.{_≡_, refl, sym, _∙_, ap, subst}
 use Prim.Native.Nat.{ℕ, zero, suc}
 use mathlib.Core.List.{List, [], _∷_, map}
-use lib.ListN.{length, set, length-set}
+use lib.ListN.{set, length-set}
 use mir.Val.{Val, vunit}
 use denote.RattleType.{RattleType}
 use denote.Shadow.{shadow}
@@ -14,7 +14,7 @@ use denote.Struct.Declared.{Declared, shape}
 use denote.Struct.Laws as LL
 
 -- a list with one element changed, mapped
-pub map-set : {A B : Type 0} (f : A → B) (xs : List A) (i : ℕ) (y : A) → map f (set xs i y) ≡ set (map f xs) i (f y)
+map-set : {A B : Type 0} (f : A → B) (xs : List A) (i : ℕ) (y : A) → map f (set xs i y) ≡ set (map f xs) i (f y)
 map-set f [] i y = refl
 map-set f (x ∷ xs) zero y = refl
 map-set f (x ∷ xs) (suc i) y = ap (λ (ys : List _). f x ∷ ys) (map-set f xs i y)
@@ -39,7 +39,7 @@ module _ (R : RattleType) (val : R .Denot → Val) (tells : Tells R (Is R) (λ y
   each-set (x ∷ xs) (u ∷ us) zero y s p = (p, s .1)
   each-set (x ∷ xs) (u ∷ us) (suc i) y s p = (s .0, each-set xs us i y (s .1) p)
 
-  pub array-set : (n : ℕ) (xs : List (R .Denot)) (vs : List Val) (i : ℕ) (y : R .Denot) → Is (Array R n) xs vs → Is R y (val y ∷ [])
+  array-set : (n : ℕ) (xs : List (R .Denot)) (vs : List Val) (i : ℕ) (y : R .Denot) → Is (Array R n) xs vs → Is R y (val y ∷ [])
       → Is (Array R n) (set xs i y) (arrayVal (map val (set xs i y)) ∷ [])
   array-set n xs vs i y p q =
       let told = map-set val xs i y ∙ ap (λ (us : List Val). set us i (val y)) (sym (each-told xs (p .0) (p .1 .1))) in

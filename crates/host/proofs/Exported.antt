@@ -9,12 +9,17 @@
 -- meets its contract if x_of meets this one, and asks nothing:
 --     fn x_of(gateway: Gateway, ..) -> Done
 --         ensures { λ r. ⌜ Changes result call gateway (r .change) (r .result) buffer ⌝ }
--- The parameters `..` are the same in both, in the same order: any of u8, u16, u32, u64, `&[u8]` (bytes) and `&mut [u8]` (buffer). `call` is made of
--- them: of a number, of the bytes at entry. `buffer` is `now (b .exit)` of the first buffer b, and `[]` where there is none. Done is a struct of two
--- fields, `change: Change` and `result: Result`; Result is a struct of plain data.
--- To prove the next export, copy proofs/gateway_calls/sealwax_retire/Proof.antt and change: the names of the function and of its x_of; the modules that
--- are imported as Result and Done; the list of parameters; the call, as a function of them; and the function `result`.
--- sealwax_setup, which stores a whole gateway, and sealwax_report, which has a `&Gateway`, are the only ones of their forms: each has its own walk.
+-- The parameters `..` are the same in both, in the same order: any of u8, u16, u32, u64, `&[u8]` (bytes) and `&mut [u8]` (buffer), the slices
+-- with no lifetimes written. `call` is made of their values: of a number, of the bytes at entry. `buffer` is `now (b .exit)` of the first buffer
+-- b, and `[]` where there is none. Done is a struct of two fields, `change: Change` and `result: Result`, and Result a struct of plain data.
+--
+-- To prove the next export, copy proofs/gateway_calls/sealwax_retire/Proof.antt and change
+--     the names of the two functions, wherever they stand;
+--     the modules that are imported as Result and as Done;
+--     the list of parameters, and behind it the call, as a function of them, and the function `result` of the contract.
+-- An error there is a fact that does not hold of the function: its code or one of the two contracts has another form than the above.
+--
+-- sealwax_setup stores a whole gateway, and sealwax_report has a `&Gateway`: each is the only one of its form, and has a walk of its own.
 -- Assumes nothing.
 use mathlib.Core.Path.{_≡_, refl, ap, subst}
 use Prim.Native.Nat.{ℕ, suc}
@@ -27,7 +32,7 @@ use mir.Syntax.{Name, Sym, Fn, Ty, Local, local, valueLocal, named, erased, mut,
 use mir.Syntax.{place, deref, field, copy, rvOpd, addrOf, assign, seq, call as calling, return}
 use mir.Val.{Val, vptr}
 use base.Logic.{SProp, ent, emp, via, fst∗, id⊢}
-use base.Fml.{Fml, ftrue, fsep, fat, flft, fres}
+use base.Fml.{Fml, ftrue, fat, flft, fres}
 use prog.Memory.{Memory}
 use prog.Routine.{Routine, Env as Routines}
 use prog.Model.{Model}
@@ -58,7 +63,7 @@ use denote.Struct.Steps.{spelt}
 use denote.Struct.Laws as LL
 use denote.Triple.Statement.{Contract, Triple}
 use denote.Triple.Call.{calls-at}
-use denote.Triple.Clauses.{Ended, Clauses, Lasts, closing}
+use denote.Triple.Clauses.{Ended, Clauses, closing}
 use denote.Triple.End.{Kepts, Fins, outs, lastsOf}
 use denote.Triple.Entry.{Args, onEntry}
 use denote.Triple.Spec.{Meets, tripleOf}
@@ -75,7 +80,7 @@ use Rattle.gateway.proofs.change.Change as C
 use Rattle.gateway.proofs.change.Change.Laws as C′
 use Rattle.host.specs.Calls.{Changes, Does}
 use Rattle.host.proofs.Applied.{Apply, to-apply, goes-apply, applied}
-use Rattle.host.proofs.Locals.{Blocks, locals, past, entries, Spots, two-more, first, behind, one-behind, from-at, read-first, read-same}
+use Rattle.host.proofs.Locals.{locals, past, entries, Spots, two-more, first, behind, one-behind, from-at, read-first, read-same}
 use Rattle.host.proofs.Locals.{alloc-all, pass-all, free-all}
 pub use Rattle.host.proofs.Parameters.{u8, u16, u32, u64, bytes, buffer}
 use Rattle.host.proofs.Parameters.{Parameter, lifetimes, types-of, slots, kept, rows, spelled, told, valued, values, typed}
@@ -91,8 +96,8 @@ use Rattle.host.proofs.change.apply.Met as apply-met
 abbrev done-fields : Declared → List Field
 done-fields Result = C.the-field ∷ as-field Result ∷ []
 
--- What tells one export from another: Result, with its laws; Done, by its name, its two fields, and that it is no more than these; the parameters; the
--- call that they make; what of its answer is the result
+-- What tells one export from another: Result, with its laws; Done, by its name, its two fields, and that it is no more than these; the
+-- parameters; the call that they make; what of its answer is the result
 module _ (Result : Declared) (result-laws : LL.Laws Result) (result-plain : Plains (fields Result))
     (name : Sym) {Done : Type 0} (parts : Done → Change × (Result .D × Unit {0}))
     (is-parts : (x y : Done) → intos (done-fields Result) (parts x) ≡ intos (done-fields Result) (parts y) → x ≡ y)
@@ -102,6 +107,9 @@ module _ (Result : Declared) (result-laws : LL.Laws Result) (result-plain : Plai
   n = lifetimes ps
 
   -- ---- the types of the result and of Done
+  abbrev result-type : Ty
+  result-type = layout (shape Result)
+
   abbrev result-row : RattleType
   result-row = row Result
 
@@ -119,7 +127,7 @@ module _ (Result : Declared) (result-laws : LL.Laws Result) (result-plain : Plai
   }
 
   abbrev lowered : LL.Lowered Result
-  lowered = record { mir = layout (shape Result); lowered = LL.val Result result-laws; layout-is = refl; val-is = LL.tells Result result-laws }
+  lowered = record { mir = result-type; lowered = LL.val Result result-laws; layout-is = refl; val-is = LL.tells Result result-laws }
 
   abbrev done-laws : LL.Laws Done-type
   done-laws = (C′.the-field-laws, (LL.field-laws Result result-laws lowered, tt))
@@ -143,7 +151,7 @@ module _ (Result : Declared) (result-laws : LL.Laws Result) (result-plain : Plai
   abbrev step-kept : Kepts step-params
   step-kept = kept n 0 ps
 
-  abbrev pub ended : Ended
+  abbrev ended : Ended
   ended = record {
     signature = record {
       lifetimes = suc n;
@@ -154,13 +162,13 @@ module _ (Result : Declared) (result-laws : LL.Laws Result) (result-plain : Plai
     kept = (yes, params-kept);
   }
 
-  abbrev pub step-ended : Ended
+  abbrev step-ended : Ended
   step-ended = record {
     signature = record { lifetimes = n; outlives = []; params = plain (λ κs. T.the-row) ∷ step-params; result = plain (λ κs. row Done-type) };
     kept = (yes, step-kept);
   }
 
-  abbrev pub clauses : {M : Type 1} (𝓤 : URA M) → Clauses 𝓤 ended
+  abbrev clauses : {M : Type 1} (𝓤 : URA M) → Clauses 𝓤 ended
   clauses 𝓤 κs a = record {
     ghost = Unit {0};
     requires = λ g. emp 𝓤;
@@ -168,7 +176,7 @@ module _ (Result : Declared) (result-laws : LL.Laws Result) (result-plain : Plai
         fact 𝓤 (Does result (passed (suc n) κs 1 ps call (a .1)) (a .0 .now) (end .0 .now) r (written (suc n) κs 1 ps (end .1)));
   }
 
-  abbrev pub step-clauses : {M : Type 1} (𝓤 : URA M) → Clauses 𝓤 step-ended
+  abbrev step-clauses : {M : Type 1} (𝓤 : URA M) → Clauses 𝓤 step-ended
   step-clauses 𝓤 κs a = record {
     ghost = Unit {0};
     requires = λ g. emp 𝓤;
@@ -177,9 +185,6 @@ module _ (Result : Declared) (result-laws : LL.Laws Result) (result-plain : Plai
   }
 
   -- ---- the code
-  abbrev result-type : Ty
-  result-type = layout (shape Result)
-
   abbrev done-type : Ty
   done-type = layout (shape Done-type)
 
@@ -195,7 +200,8 @@ module _ (Result : Declared) (result-laws : LL.Laws Result) (result-plain : Plai
   abbrev again-types : List Ty
   again-types = lent-types ps
 
-  -- the locals: result, gateway, parameters, `done`, a copy of the gateway, what lends the buffers again, what `apply` returns, the gateway lent again
+  -- the locals: result, gateway, parameters, `done`, a copy of the gateway, what lends the buffers again, what `apply` returns, what lends the
+  -- gateway again
   abbrev last-locals : List Local
   last-locals = local tyUnit valueLocal ∷ local lent-reference valueLocal ∷ []
 
@@ -217,7 +223,7 @@ module _ (Result : Declared) (result-laws : LL.Laws Result) (result-plain : Plai
   abbrev lent-at : ℕ
   lent-at = suc (suc (past passed-types (suc (suc (past again-types 1)))))
 
-  abbrev pub function : Name → Fn
+  abbrev function : Name → Fn
   function step = record {
     lifetimes = suc n;
     outlives = [];
@@ -284,7 +290,8 @@ module _ (Result : Declared) (result-laws : LL.Laws Result) (result-plain : Plai
       step-call = passed n (κs .1) 0 ps call (args .1)
 
       abbrev Said : Done → Left → Type 0
-      Said d ws = Changes result step-call before (change-in d) (result-in d) (written n (κs .1) 0 ps (outs (κs .1) step-params step-kept (args .1) ws))
+      Said d ws =
+          Changes result step-call before (change-in d) (result-in d) (written n (κs .1) 0 ps (outs (κs .1) step-params step-kept (args .1) ws))
 
       goes-step : ent 𝓤 (⋆ 𝓤 H A (raw Tokens ∷ ‵ (owns (T.the-row ∷ rows n (κs .1) 0 ps) args arg-values) ∷ [])) (Step .pre to-step)
       goes-step = qed W (raw Tokens ∷ ‵ (owns (T.the-row ∷ rows n (κs .1) 0 ps) args arg-values) ∷ []) ∵ join ! $ frame ! $ by ! (id⊢ 𝓤 (emp 𝓤))
@@ -296,7 +303,7 @@ module _ (Result : Declared) (result-laws : LL.Laws Result) (result-plain : Plai
       exits d after ws is said is-after =
           let ws′ : Fins κs params params-kept (a .1) = back n κs 0 ps (a .1) ws in
           let does = applied result step-call before after (change-in d) (result-in d) _ said is-after in
-          let at-exit = subst (λ (bytes : List ℕ). Does result step-call before after (result-in d) bytes) (same-written n κs 0 ps (a .1) ws) does in
+          let at-exit = subst (λ (end : List ℕ). Does result step-call before after (result-in d) end) (same-written n κs 0 ps (a .1) ws) does in
           qed W (‵ (fres (a .0 .name) (T.the-row .coded .code after)) ∷ ‵ (flft (κs .0) (qs .0)) ∷ raw Tokens
           ∷ ‵ (lastsOf (κs .1) step-params step-kept (args .1) ws) ∷ []) ∵
           suffices ! _ (ends-at 𝓤 H A ended stayed (clauses 𝓤) W ((κs, qs, tt, a, at), tt) (LL.val Result result-laws (result-in d)) (result-in d)
@@ -338,45 +345,51 @@ module _ (Result : Declared) (result-laws : LL.Laws Result) (result-plain : Plai
             -- the gateway is copied, and the borrow is closed at it
             move ! (14 ∷ 15 ∷ 16 ∷ []) $ opens ! tt T.the-row {h = before} b o (λ us.
             spelt ! T.the-row (Is T.the-row) (shows 𝓤 H A T.the-row) gateway-values (LL.tells T.the-type T′.the-laws) fullShare before us b o $
-            move ! (1 ∷ []) $ peeks ! T.the-row (Is T.the-row) (shows 𝓤 H A T.the-row) before (gateway-values before) (λ was. move ! (1 ∷ 0 ∷ []) $
+            move ! (1 ∷ []) $ peeks ! T.the-row (Is T.the-row) (shows 𝓤 H A T.the-row) before (gateway-values before) (λ was.
+            move ! (1 ∷ 0 ∷ []) $
             assigns ! (of-opd ! (load ! (from ! (hop ! (look ! 15 refl) (stop !))) (look-raw ! 0 refl))) (from-at ! is-copy (stop !))
             (init ! 11 refl (LL.lawful T.the-type T′.the-laws 𝓤 H A W .typed before _ was .0)) $
             closes ! tt T.the-row before (gateway-values before) b o $
             -- the buffers are lent again, and x_of is called
             move ! (3 ∷ 8 ∷ []) $ lends (suc n) κs E ! 1 ps (a .1) typed-vs 2 again-at bs ls is-passed is-again $ move ! (2 ∷ 3 ∷ 4 ∷ []) $
-            -- [obs; the borrow; the token; the parameters; what lends them again; the other locals, from the last; what the parameters own; the other tokens]
+            -- [obs; the borrow; the token; the parameters; what lends them again; the other locals, from the last; what the parameters own; the tokens]
             rewrite ! 17 (λ (P : Fml). ‵ P) (same-owns n κs 0 ps (a .1)) refl $
-            owned ! T.the-row (Is T.the-row) ((LL.makes T.the-type T′.the-plain) 𝓤 H A) before _ was $ move ! (0 ∷ 18 ∷ []) $ fjoin ! $ move ! (18 ∷ 0 ∷ []) $
-            use2 W (raw (Step .pre to-step)) goes-step $
+            owned ! T.the-row (Is T.the-row) ((LL.makes T.the-type T′.the-plain) 𝓤 H A) before _ was $
+            move ! (0 ∷ 18 ∷ []) $ fjoin ! $ move ! (18 ∷ 0 ∷ []) $ use2 W (raw (Step .pre to-step)) goes-step $
             calls-at ! fm Step step-meets to-step (and-then ! (load ! (from-at ! is-copy (stop !)) (look ! 10 refl))
-            (read-same ! (same-values n κs 0 ps (a .1)) (read-first ! 5 (read-first ! 5 (handed (suc n) κs E ! 1 ps (a .1) 2 again-at bs ls is-passed is-again))))) (λ v.
+            (read-same ! (same-values n κs 0 ps (a .1)) (read-first ! 5 (read-first ! 5
+            (handed (suc n) κs E ! 1 ps (a .1) 2 again-at bs ls is-passed is-again))))) (λ v.
             returned ! step-ended (step-clauses 𝓤) to-step v (λ d ws. Said d (ws .1)) tt (λ d ws. id⊢ 𝓤 _) (λ d ws said.
             peeks ! (row Done-type) (Is (row Done-type)) (shows 𝓤 H A (row Done-type)) d (v ∷ []) (λ is.
             let parts-are = LL.owed Done-type done-laws d (v ∷ []) is in
             land ! (from-at ! is-done (stop !)) (init ! 14 refl (LL.lawful Done-type done-laws 𝓤 H A W .typed d _ is .0)) $
             rewrite ! 14 (λ (u : Val). ‵ (fat fullShare done-type b-done 0 u)) (ap only (LL.tells Done-type done-laws d _ is)) refl $ drop ! $
             move ! (1 ∷ []) $ fsplit ! $ drop ! $ move ! (1 ∷ []) $
-            -- [the other tokens; what is left of the parameters; obs; the borrow; the token; the parameters; what lends them again; the other locals]
+            -- [the tokens; what is left of the parameters; obs; the borrow; the token; the parameters; what lends them again; the other locals]
             -- the gateway is lent again, and `apply` is called
             assigns ! (addr ! (from ! (hop ! (look ! 15 refl) (stop !)))) (from-at ! is-lent (stop !)) (init ! 7 refl (tt, tt)) $
             nothing ! $ owned ! C.the-row (Is C.the-row) ((LL.makes C.the-type C′.the-plain) 𝓤 H A) (change-in d) _ (parts-are .0) $ fjoin ! $
-            feqI ! (List Val) (vptr b o ∷ []) (vptr b o ∷ []) refl $ move ! (0 ∷ 4 ∷ 5 ∷ []) $ fjoin3 ! $ fjoin ! $ nothing ! $ move ! (4 ∷ 0 ∷ []) $ join ! $
-            let to-apply-now = to-apply 𝓤 H A W at-mem run (κs .0) (qs .0) b o (a .0 .name) before (change-in d) in
-            use2 W (raw (Apply 𝓤 H A at-mem run .pre to-apply-now)) (goes-apply 𝓤 H A W at-mem run (κs .0) (qs .0) b o (a .0 .name) before (change-in d) (said .0)) $
-            calls-at ! fm (Apply 𝓤 H A at-mem run) apply-meets to-apply-now (and-then ! (load ! (from-at ! is-lent (stop !)) (look ! 5 refl))
+            feqI ! (List Val) (vptr b o ∷ []) (vptr b o ∷ []) refl $ move ! (0 ∷ 4 ∷ 5 ∷ []) $ fjoin3 ! $ fjoin ! $
+            nothing ! $ move ! (4 ∷ 0 ∷ []) $ join ! $
+            let asked = to-apply 𝓤 H A W at-mem run (κs .0) (qs .0) (a .0) (change-in d) in
+            use2 W (raw (Apply 𝓤 H A at-mem run .pre asked)) (goes-apply 𝓤 H A W at-mem run (κs .0) (qs .0) (a .0) (change-in d) (said .0)) $
+            calls-at ! fm (Apply 𝓤 H A at-mem run) apply-meets asked (and-then ! (load ! (from-at ! is-lent (stop !)) (look ! 5 refl))
             (and-then ! (load ! (from-at ! is-done (fld ! refl (stop !))) (look-in ! 11 (sub ! 0 refl (whole !)))) (no-more !))) (λ v′.
-            returned ! apply.ended (apply.clauses 𝓤 H A at-mem run) to-apply-now v′ (λ u after. after .0 ≡ changed (change-in d) before) tt (λ u after. id⊢ 𝓤 _) (λ u after is-after.
+            returned ! apply.ended (apply.clauses 𝓤 H A at-mem run) asked v′ (λ u after. after .0 ≡ changed (change-in d) before) tt (λ u after. id⊢ 𝓤 _)
+            (λ u after is-after.
             peeks ! unit (Is unit) (shows 𝓤 H A unit) u (v′ ∷ []) (λ is-unit-value.
             land ! (from-at ! is-unit (stop !)) (init ! 9 refl (nothing-lawful 𝓤 H A W .typed u (v′ ∷ []) is-unit-value .0)) $ drop ! $
-            use1 W (‵ (flft (κs .0) (qs .0)) ⊛ ‵ ftrue) (id⊢ 𝓤 _) $ split ! $ move ! (1 ∷ []) $ drop ! $ move ! (1 ∷ []) $ fsplit ! $ move ! (1 ∷ []) $ drop ! $
-            -- [the gateway's last value; the token; the other tokens; what is left of the parameters; the parameters; what lends them again; the other locals]
+            use1 W (‵ (flft (κs .0) (qs .0)) ⊛ ‵ ftrue) (id⊢ 𝓤 _) $ split ! $ move ! (1 ∷ []) $ drop ! $ move ! (1 ∷ []) $ fsplit ! $ move ! (1 ∷ []) $
+            drop ! $
+            -- [the gateway's last value; the token; the tokens; what is left of the parameters; the parameters; what lends them again; the other locals]
             -- the result is read, and the locals are freed
             assigns ! (of-opd ! (load ! (from-at ! is-done (fld ! refl (stop !))) (look-in ! 12 (sub ! 1 refl (whole !))))) (from ! (stop !))
             (init ! 16 refl (LL.lawful Result result-laws 𝓤 H A W .typed (result-in d) _ (parts-are .1 .0) .0)) $
-            returns ! (look ! 16 refl) $ forget ! 6 refl $ forget ! 8 refl $ forget ! 10 refl $ forget ! 12 refl $ forget ! 14 refl $ forget ! 16 refl $
+            returns ! (look ! 16 refl) $
+            forget ! 6 refl $ forget ! 8 refl $ forget ! 10 refl $ forget ! 12 refl $ forget ! 14 refl $ forget ! 16 refl $
             move ! (16 ∷ 17 ∷ []) $ free1 ! $ move ! (14 ∷ 15 ∷ []) $ free1 ! $ move ! (4 ∷ []) $ free-all ! passed-types bs vs typed-vs E-more $
-            move ! (11 ∷ 12 ∷ []) $ free1 ! $ move ! (9 ∷ 10 ∷ []) $ free1 ! $ move ! (4 ∷ []) $ free-all ! again-types ls again-vs typed-again E-last $
-            move ! (6 ∷ 7 ∷ []) $ free1 ! $ move ! (4 ∷ 5 ∷ []) $ free1 ! $ free0 ! $
+            move ! (11 ∷ 12 ∷ []) $ free1 ! $ move ! (9 ∷ 10 ∷ []) $ free1 ! $
+            move ! (4 ∷ []) $ free-all ! again-types ls again-vs typed-again E-last $ move ! (6 ∷ 7 ∷ []) $ free1 ! $ move ! (4 ∷ 5 ∷ []) $ free1 ! $ free0 ! $
             keep ! (0 ∷ 1 ∷ 2 ∷ 3 ∷ []) $ by ! (exits d (after .0) (ws .1) (parts-are .1 .0) said is-after)))))))))))))))))
 
     walks : (step : Name) (Cs : Calls 𝓤 H) (Λ : Loops 𝓤 H) → FmC 𝓤 H (W .laws) Cs → Triple 𝓤 (Cs step) Step
@@ -385,7 +398,8 @@ module _ (Result : Declared) (result-laws : LL.Laws Result) (result-plain : Plai
         (λ κs. (ptr-vals, spelled (suc n) κs 1 ps)) (λ κs. (mut-tells (named 0) (κs .0) T.the-row, told (suc n) κs 1 ps))
         (λ κs qs bounds a g are. via 𝓤 _ (fst∗ 𝓤 _ (emp 𝓤)) (walk κs qs a (are .1) step Cs Λ fm step-meets apply-meets))
 
-  -- ---- the law, of the modules that Rattle makes for the call (env, key, the code, its call of `apply`) and for x_of (name, routine, the call of it, its proof)
+  -- ---- the law, over what Rattle makes for the call (env, key, that it is its code, that `apply` is what it calls) and for x_of (name, routine,
+  -- that it is what the call calls, its proof)
   pub law : {M : Type 1} (𝓤 : URA M) (H : Heap 𝓤) (𝓜 : Model 𝓤 H) (𝓖 : GhostRules 𝓤 H) (𝓡 : Running 𝓤 H 𝓜) (env : Routines) (key step : Name)
       → Closed 𝓤 H (tables 𝓤 H 𝓜 𝓡 env .C) (tables 𝓤 H 𝓜 𝓡 env .Λ) key (function step) → env apply-symbol.name ≡ apply-symbol.routine
       → (routine : Routine) → env step ≡ routine

@@ -1,4 +1,5 @@
--- The locals of a list of types, whatever their number: one step of a walk allocates, fills or frees them all. So one law walks every function of a form.
+-- The locals of a list of types, whatever their number: one step of a walk allocates, fills or frees them all. So one law can walk functions of
+-- any number of parameters.
 -- Assumes nothing.
 use mathlib.Core.Path.{_≡_, refl, sym, subst}
 use Prim.Native.Nat.{ℕ, zero, suc}
@@ -12,7 +13,8 @@ use base.Logic.{ent, emp, id⊢, via}
 use base.Fml.{ftrue, fat, froom, fdies}
 use prog.Wp.{Heap, Env, Spot, noLocal, walk}
 use ghost.Atoms.{Atoms}
-use types.Kit.{Given, Item, ‵, _⊛_, ⋆, Goal, allocs, passes, frees, Seq, Step, step, _$_, _∵_, !, qed, nth, del, pull, unpull, push, pop, use0, move, drop, join, split, done}
+use types.Kit.{Given, Item, ‵, _⊛_, ⋆, Goal, allocs, passes, frees, Seq, Step, step, _$_, _∵_, !, qed, use0, move, drop, join, split, done}
+use types.Kit.{nth, del, pull, unpull, push, pop}
 use types.Run.{Walks, Finds, Opds, init, forget, alloc1, pass1, pass0, free1}
 use denote.Laws.{Typed}
 
@@ -52,7 +54,8 @@ module _ {M : Type 1} (𝓤 : URA M) (H : Heap 𝓤) where
   first [] bs E = tt
   first (τ ∷ τs) bs E = (refl, one-more (τ, bs .0) (entries τs (bs .1) ++ E) 0 τs (bs .1) (first τs (bs .1) E))
 
-  pub behind : (τs : List Ty) (bs : Blocks τs) (E : Env 𝓤 H) (i : ℕ) (σs : List Ty) (cs : Blocks σs) → Spots E i σs cs → Spots (entries τs bs ++ E) (past τs i) σs cs
+  pub behind : (τs : List Ty) (bs : Blocks τs) (E : Env 𝓤 H) (i : ℕ) (σs : List Ty) (cs : Blocks σs) → Spots E i σs cs
+      → Spots (entries τs bs ++ E) (past τs i) σs cs
   behind [] bs E i σs cs at = at
   behind (τ ∷ τs) bs E i σs cs at = one-more (τ, bs .0) (entries τs (bs .1) ++ E) (past τs i) σs cs (behind τs (bs .1) E i σs cs at)
 
@@ -97,9 +100,11 @@ module _ {M : Type 1} {𝓤 : URA M} {H : Heap 𝓤} {A : Atoms 𝓤} {K : Type 
   read-same t {Γ} {E} {xs} same os = subst (λ (ws : List Val). Opds K W Γ E xs ws) same os
 
   pub alloc-all : K → (τs : List Ty) (ms : List Local) {Γ : List (Item 𝓤)} {Kt : Env 𝓤 H → Goal 𝓤 H}
-      → ((bs : Blocks τs) → Seq K W (rooms 𝓤 H τs bs ∷ Γ) (allocs ms (λ E. Kt (entries 𝓤 H τs bs ++ E)))) → Seq K W Γ (allocs (locals τs ++ ms) Kt)
+      → ((bs : Blocks τs) → Seq K W (rooms 𝓤 H τs bs ∷ Γ) (allocs ms (λ E. Kt (entries 𝓤 H τs bs ++ E))))
+      → Seq K W Γ (allocs (locals τs ++ ms) Kt)
   alloc-all t [] ms k = use0 W (‵ ftrue) (id⊢ 𝓤 (emp 𝓤)) $ k tt
-  alloc-all t (τ ∷ τs) ms {Γ} {Kt} k = alloc1 t (λ b. join t $ alloc-all t τs ms {Kt = λ E. Kt ((τ, b) ∷ E)} (λ bs. move t (1 ∷ 0 ∷ []) $ join t $ k (b, bs)))
+  alloc-all t (τ ∷ τs) ms {Γ} {Kt} k =
+      alloc1 t (λ b. join t $ alloc-all t τs ms {Kt = λ E. Kt ((τ, b) ∷ E)} (λ bs. move t (1 ∷ 0 ∷ []) $ join t $ k (b, bs)))
 
   pub pass-all : K → (τs : List Ty) (bs : Blocks τs) (vs : List Val) → Typed τs vs → (E : Env 𝓤 H) {Γ : List (Item 𝓤)} {g : Goal 𝓤 H}
       → Step K W (cells 𝓤 H τs bs vs ∷ Γ) g (rooms 𝓤 H τs bs ∷ Γ) (passes (entries 𝓤 H τs bs ++ E) vs g)

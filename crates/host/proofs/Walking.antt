@@ -1,5 +1,5 @@
--- What the walks of this crate share: parameters that a body gives up, what a called function tells when it has returned, and how a walk ends in what
--- is stated of its function.
+-- What the walks of this crate share: parameters that a body gives up, what a called function tells when it has returned, and how a walk ends in
+-- what is stated of its function.
 -- Assumes nothing.
 use Prim.Native.Nat.{ℕ}
 use mathlib.Core.List.{List, [], _∷_}
@@ -68,7 +68,8 @@ module _ {M : Type 1} (𝓤 : URA M) (H : Heap 𝓤) (A : Atoms 𝓤) (T : Ended
   left-of y ws = ‵ (lasts T (y .0 .0) (y .0 .3) ws)
 
 module _ {M : Type 1} {𝓤 : URA M} {H : Heap 𝓤} {A : Atoms 𝓤} {K : Type 0} {W : Given 𝓤 H A} {Γ : List (Item 𝓤)} {G : Goal 𝓤 H} where
-  pub returned : K → (T : Ended) (c : Clauses 𝓤 T) (y : Given-to 𝓤 H A T c) (v : Val) (Said : Result 𝓤 H A T c y → Last 𝓤 H A T c y → Type 0) → Soaks G
+  pub returned : K → (T : Ended) (c : Clauses 𝓤 T) (y : Given-to 𝓤 H A T c) (v : Val)
+      (Said : Result 𝓤 H A T c y → Last 𝓤 H A T c y → Type 0) → Soaks G
       → ((r : Result 𝓤 H A T c y) (ws : Last 𝓤 H A T c y) → ent 𝓤 (Ensured 𝓤 H A T c y r ws) (fact 𝓤 (Said r ws)))
       → ((r : Result 𝓤 H A T c y) (ws : Last 𝓤 H A T c y) → Said r ws
       → Seq K W (own 𝓤 H A T c y r v ∷ tokens 𝓤 H A T c y ∷ left-of 𝓤 H A T c y ws ∷ Γ) G)

@@ -60,8 +60,11 @@ module _ {M : Type 1} (𝓤 : URA M) (H : Heap 𝓤) (A : Atoms 𝓤) (W : Given
     abbrev before : Gateway
     before = a .0 .now
 
+    abbrev spelling : Gateway → List Val
+    spelling = LL.vals T.the-type T.Laws.the-laws
+
     abbrev gateway-values : List Val
-    gateway-values = LL.vals T.the-type T.Laws.the-laws before
+    gateway-values = spelling before
 
     abbrev at : List Val × Unit {0}
     at = (vptr b o ∷ [], tt)
@@ -77,7 +80,8 @@ module _ {M : Type 1} (𝓤 : URA M) (H : Heap 𝓤) (A : Atoms 𝓤) (W : Given
     to-step = ((tt, tt, tt, (before, tt), (gateway-values, tt)), tt)
 
     goes-step : ent 𝓤 (sem 𝓤 H A (T.the-row .own before gateway-values)) (Step .pre to-step)
-    goes-step = qed W (‵ (T.the-row .own before gateway-values) ∷ []) ∵ nothing ! $ move ! (1 ∷ 0 ∷ []) $ fjoin ! $ nothing ! $ join ! $ frame ! $ done !
+    goes-step = qed W (‵ (T.the-row .own before gateway-values) ∷ []) ∵
+        nothing ! $ move ! (1 ∷ 0 ∷ []) $ fjoin ! $ nothing ! $ join ! $ frame ! $ done !
 
     exits : (r : ReportResult) (v : Val) → Said r → ent 𝓤 (⋆ 𝓤 H A (‵ (flft (κs .0) (qs .0)) ∷ ‵ (N.the-row .own r (v ∷ [])) ∷ [])) (Post v)
     exits r v said =
@@ -93,9 +97,9 @@ module _ {M : Type 1} (𝓤 : URA M) (H : Heap 𝓤) (A : Atoms 𝓤) (W : Given
           -- [the fractured borrow; the token; …]
           enter ! Cs Λ f.Code.function (vptr b o ∷ []) _ $
           alloc1 ! (λ b-result. alloc1 ! (λ b-gateway. alloc1 ! (λ b-copy. alloc0 ! $ params1 ! $ pass1 ! (init ! 2 refl (tt, tt)) $ pass0 ! $
-          move ! (6 ∷ 7 ∷ []) $ looks ! tt T.the-row (Is T.the-row) (shows 𝓤 H A T.the-row) (LL.vals T.the-type T.Laws.the-laws) (LL.tells T.the-type T.Laws.the-laws)
+          move ! (6 ∷ 7 ∷ []) $ looks ! tt T.the-row (Is T.the-row) (shows 𝓤 H A T.the-row) spelling (LL.tells T.the-type T.Laws.the-laws)
           ((LL.copy T.the-type T.Laws.the-copy) 𝓤 H A W) before b o (λ q us.
-          spelt ! T.the-row (Is T.the-row) (shows 𝓤 H A T.the-row) (LL.vals T.the-type T.Laws.the-laws) (LL.tells T.the-type T.Laws.the-laws) q before us b o $
+          spelt ! T.the-row (Is T.the-row) (shows 𝓤 H A T.the-row) spelling (LL.tells T.the-type T.Laws.the-laws) q before us b o $
           move ! (1 ∷ []) $ peeks ! T.the-row (Is T.the-row) (shows 𝓤 H A T.the-row) before gateway-values (λ was. move ! (1 ∷ 0 ∷ []) $
           -- [a share of the gateway's cell; what a gateway owns; what shuts it; the fractured borrow; the locals, from the last; …]
           assigns ! (of-opd ! (load ! (from ! (hop ! (look ! 6 refl) (stop !))) (look-raw ! 0 refl))) (from ! (stop !))

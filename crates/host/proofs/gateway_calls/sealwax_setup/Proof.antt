@@ -1,5 +1,5 @@
--- `host::gateway_calls::sealwax_setup` meets its contract: a walk of its MIR, by hand. `fresh_of` is called; then the borrow of the gateway is opened, the
--- fresh gateway is stored, and the borrow is closed at it. All that the proof knows of `fresh_of` is that it meets its contract.
+-- `host::gateway_calls::sealwax_setup` meets its contract: a walk of its MIR, by hand. `fresh_of` is called; then the borrow of the gateway is
+-- opened, the fresh gateway is stored, and the borrow is closed at it. All that the proof knows of `fresh_of` is that it meets its contract.
 -- `Exported`'s law does not cover it: no other function reads no gateway and stores a whole one, so a law for these would have one use.
 -- Assumes nothing.
 use mathlib.Core.Path.{_≡_, refl, ap}
@@ -63,7 +63,8 @@ module _ {M : Type 1} (𝓤 : URA M) (H : Heap 𝓤) (A : Atoms 𝓤) (W : Given
   abbrev Step : Contract 𝓤
   Step = tripleOf 𝓤 H A step.signature (step.spec 𝓤 H A at-mem run)
 
-  module _ (κs : Lfts 2) (qs : Shares 2) (a : Args f.signature κs) (are : Are (rows 2 κs 1 ps) (Ises (rows 2 κs 1 ps)) (a .1) (valued 2 κs 1 ps (a .1))) where
+  module _ (κs : Lfts 2) (qs : Shares 2) (a : Args f.signature κs)
+      (are : Are (rows 2 κs 1 ps) (Ises (rows 2 κs 1 ps)) (a .1) (valued 2 κs 1 ps (a .1))) where
     abbrev b : ℕ
     b = a .0 .ptr .0
 
@@ -101,10 +102,11 @@ module _ {M : Type 1} (𝓤 : URA M) (H : Heap 𝓤) (A : Atoms 𝓤) (W : Given
     exits r is said =
         qed W (‵ (fobs (a .0 .name) (T.the-row .coded .code (r .gateway))) ∷ ‵ (fbor (κs .0) (Body (mem T.the-row) b o (a .0 .name)))
         ∷ ‵ (flft (κs .0) (qs .0)) ∷ raw Tokens ∷ []) ∵
-        suffices ! _ (ends-at 𝓤 H A f.ended stayed (f.clauses 𝓤 H A at-mem run) W ((κs, qs, tt, a, at), tt) (LL.val N.the-type N.Laws.the-laws (r .result))
-        (r .result) (r .gateway, (tt, (tt, tt))) (tt, (tt, (tt, tt)))) $
+        suffices ! _ (ends-at 𝓤 H A f.ended stayed (f.clauses 𝓤 H A at-mem run) W ((κs, qs, tt, a, at), tt)
+        (LL.val N.the-type N.Laws.the-laws (r .result)) (r .result) (r .gateway, (tt, (tt, tt))) (tt, (tt, (tt, tt)))) $
         says ! said $ move ! (2 ∷ 3 ∷ []) $ join ! $ frame ! $
-        nothing ! $ nothing ! $ fjoin ! $ nothing ! $ fjoin ! $ feqI ! (List Val) (vptr b o ∷ []) (vptr b o ∷ []) refl $ move ! (0 ∷ 2 ∷ 3 ∷ []) $ fjoin3 ! $ fjoin ! $
+        nothing ! $ nothing ! $ fjoin ! $ nothing ! $ fjoin ! $ feqI ! (List Val) (vptr b o ∷ []) (vptr b o ∷ []) refl $
+        move ! (0 ∷ 2 ∷ 3 ∷ []) $ fjoin3 ! $ fjoin ! $
         owned ! N.the-row (Is N.the-row) ((LL.makes N.the-type N.Laws.the-plain) 𝓤 H A) (r .result) _ is $ move ! (1 ∷ 0 ∷ []) $ done !
 
     module _ (Cs : Calls 𝓤 H) (Λ : Loops 𝓤 H) (fm : FmC 𝓤 H (W .laws) Cs) (step-meets : Triple 𝓤 (Cs step.Symbol.name) Step) where
@@ -119,17 +121,20 @@ module _ {M : Type 1} (𝓤 : URA M) (H : Heap 𝓤) (A : Atoms 𝓤) (W : Given
           pass1 ! (init ! 6 refl (tt, tt)) $ pass1 ! (init ! 4 refl (typed-vs .0)) $ pass1 ! (init ! 2 refl (typed-vs .1 .0)) $ pass0 ! $
           -- [the locals, from the last; obs; the borrow; the token; what the parameters own; the list's token]
           move ! (14 ∷ 13 ∷ []) $ use2 W (raw (Step .pre to-step)) goes-step $
-          calls-at ! fm Step step-meets to-step (and-then ! (load ! (from ! (stop !)) (look ! 5 refl)) (and-then ! (load ! (from ! (stop !)) (look ! 3 refl)) (no-more !))) (λ v.
+          calls-at ! fm Step step-meets to-step (and-then ! (load ! (from ! (stop !)) (look ! 5 refl))
+          (and-then ! (load ! (from ! (stop !)) (look ! 3 refl)) (no-more !))) (λ v.
           returned ! step.ended (step.clauses 𝓤 H A at-mem run) to-step v (λ r ws. Said r) tt (λ r ws. id⊢ 𝓤 _) (λ r ws said.
           peeks ! S.the-row (Is S.the-row) (shows 𝓤 H A S.the-row) r (v ∷ []) (λ is.
           let parts-are = LL.owed S.the-type S.Laws.the-laws r _ is in
           land ! (from ! (stop !)) (init ! 3 refl (LL.lawful S.the-type S.Laws.the-laws 𝓤 H A W .typed r _ is .0)) $
-          rewrite ! 3 (λ (u : Val). ‵ (fat fullShare S.Laws.mir b-fresh 0 u)) (ap only (LL.tells S.the-type S.Laws.the-laws r _ is)) refl $ drop ! $ move ! (1 ∷ []) $ drop ! $
+          rewrite ! 3 (λ (u : Val). ‵ (fat fullShare S.Laws.mir b-fresh 0 u)) (ap only (LL.tells S.the-type S.Laws.the-laws r _ is)) refl $
+          drop ! $ move ! (1 ∷ []) $ drop ! $
           -- [the list's token; the locals, from the last; obs; the borrow; the token]
           move ! (11 ∷ 12 ∷ 13 ∷ []) $ opens ! tt T.the-row {h = a .0 .now} b o (λ us.
           spelt ! T.the-row (Is T.the-row) (shows 𝓤 H A T.the-row) gateway-values (LL.tells T.the-type T.Laws.the-laws) fullShare (a .0 .now) us b o $
           -- [the gateway's cell; what a gateway owns; the open borrow; obs; auth; the list's token; the locals, from the last]
-          assigns ! (of-opd ! (load ! (from ! (fld ! refl (stop !))) (look-in ! 6 (sub ! 0 refl (whole !))))) (from ! (hop ! (look ! 12 refl) (stop !)))
+          assigns ! (of-opd ! (load ! (from ! (fld ! refl (stop !))) (look-in ! 6 (sub ! 0 refl (whole !)))))
+          (from ! (hop ! (look ! 12 refl) (stop !)))
           (store-raw ! 0 refl (LL.lawful T.the-type T.Laws.the-laws 𝓤 H A W .typed (r .gateway) _ (parts-are .0) .0)) $
           assigns ! (of-opd ! (load ! (from ! (fld ! refl (stop !))) (look-in ! 6 (sub ! 1 refl (whole !))))) (from ! (stop !))
           (init ! 14 refl (LL.lawful N.the-type N.Laws.the-laws 𝓤 H A W .typed (r .result) _ (parts-are .1 .0) .0)) $
