@@ -120,7 +120,7 @@ typedef struct sealwax_admit_result {
 
 typedef struct sealwax_open_result {
     sealwax_outcome outcome;
-    uint8_t opened; /* 1 where the exchange is opened now */
+    uint64_t opened; /* 1 where the exchange is opened now */
 } sealwax_open_result;
 
 typedef struct sealwax_respond_result {

@@ -27,7 +27,7 @@ use Rattle.gateway.specs.Calls.{Call, Answer}
 use Rattle.gateway.proofs.Gateway as T
 use Rattle.gateway.proofs.change.Change as C
 use Rattle.gateway.proofs.change.Change.Laws as C′
-use Rattle.host.specs.Calls.{Does, Changes}
+use Rattle.results.specs.Calls.{Does, Changes}
 use Rattle.host.proofs.change.apply as apply
 
 abbrev pub Apply : {M : Type 1} (𝓤 : URA M) (H : Heap 𝓤) (A : Atoms 𝓤) (mem : Memory → SProp 𝓤) (run : Routine → Fun 𝓤) → Contract 𝓤

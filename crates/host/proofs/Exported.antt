@@ -78,7 +78,7 @@ use Rattle.gateway.proofs.Gateway as T
 use Rattle.gateway.proofs.Gateway.Laws as T′
 use Rattle.gateway.proofs.change.Change as C
 use Rattle.gateway.proofs.change.Change.Laws as C′
-use Rattle.host.specs.Calls.{Changes, Does}
+use Rattle.results.specs.Calls.{Changes, Does}
 use Rattle.host.proofs.Applied.{Apply, to-apply, goes-apply, applied}
 use Rattle.host.proofs.Locals.{locals, past, entries, Spots, two-more, first, behind, one-behind, from-at, read-first, read-same}
 use Rattle.host.proofs.Locals.{alloc-all, pass-all, free-all}

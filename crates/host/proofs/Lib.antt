@@ -3,9 +3,7 @@ pub mod Applied
 pub mod Arrays
 pub mod Elements
 pub mod Exported
-pub mod Exporting
 pub mod Handing
-pub mod Layouts
 pub mod Locals
 pub mod Parameters
 pub mod Walking

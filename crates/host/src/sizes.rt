@@ -37,7 +37,7 @@ pub extern "C" fn sealwax_sizes() -> Sizes
         outcome: OUTCOME,
         setup: NUMBER,
         admit: 72,
-        open: 32,
+        open: NUMBER,
         respond: NUMBER,
         report: 240,
         check: NUMBER,

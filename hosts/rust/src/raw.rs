@@ -72,7 +72,7 @@ pub struct AdmitResult {
 #[derive(Clone, Copy, Debug, PartialEq, Eq)]
 pub struct OpenResult {
     pub outcome: Outcome,
-    pub opened: u8,
+    pub opened: u64,
 }
 
 #[repr(C)]

@@ -1,19 +1,17 @@
 -- `host::client_calls::sealwax_choose` meets its contract.
 -- Assumes nothing.
 use mathlib.Core.Path.{ap, _∙_}
-use Rattle.host.specs.Client.{chooseResult}
+use Rattle.results.specs.Client.{chooseResult}
 use borrow.Author.Needs.{needs}
 use Rattle.host.proofs.client_calls.sealwax_choose.Statement.{statement}
 use Rattle.host.proofs.client_calls.sealwax_choose.Tie as tie
-
-choose-requires : tie.Need-choose-requires
-choose-requires c κs = search needs
-
-choose-result-requires : tie.Need-choose-result-requires
-choose-result-requires c κs = search needs
 
 returns : tie.Need-returns
 returns c = c .choose-result .ensures ∙ ap chooseResult (c .before .choose .ensures)
 
 pub sealwax-choose-spec : {M : Type 1} → statement M
-sealwax-choose-spec = tie.close (tie.spec choose-requires choose-result-requires returns)
+sealwax-choose-spec = tie.close
+    (tie.spec
+    (λ c κs. search needs)
+    (λ c κs. search needs)
+    returns)

@@ -1,19 +1,17 @@
 -- `host::client_calls::sealwax_split` meets its contract.
 -- Assumes nothing.
 use mathlib.Core.Path.{ap, _∙_}
-use Rattle.host.specs.Client.{splitResult}
+use Rattle.results.specs.Client.{splitResult}
 use borrow.Author.Needs.{needs}
 use Rattle.host.proofs.client_calls.sealwax_split.Statement.{statement}
 use Rattle.host.proofs.client_calls.sealwax_split.Tie as tie
-
-check-requires : tie.Need-check-requires
-check-requires c κs = search needs
-
-split-result-requires : tie.Need-split-result-requires
-split-result-requires c κs = search needs
 
 returns : tie.Need-returns
 returns c = c .split-result .ensures ∙ ap (splitResult _) (c .before .check .ensures)
 
 pub sealwax-split-spec : {M : Type 1} → statement M
-sealwax-split-spec = tie.close (tie.spec check-requires split-result-requires returns)
+sealwax-split-spec = tie.close
+    (tie.spec
+    (λ c κs. search needs)
+    (λ c κs. search needs)
+    returns)

@@ -1,11 +1,11 @@
 -- `host::gateway_calls::sealwax_abandon` meets its contract, by the law for exported calls. Assumes nothing.
 use Rattle.exchange.specs.Steps.{abandon}
 use Rattle.gateway.specs.Calls.{onTicket}
-use Rattle.host.specs.Calls.{outcomeOf}
+use Rattle.results.specs.Calls.{outcomeOf}
 use Rattle.host.proofs.Exported.{law, u64, [], _∷_}
-use Rattle.host.proofs.outcome.Outcome as Result
-use Rattle.host.proofs.gateway_calls.Closing as Done
-use Rattle.host.proofs.gateway_calls.abandon_of as step
+use Rattle.results.proofs.outcome.Outcome as Result
+use Rattle.results.proofs.gateway_calls.Closing as Done
+use Rattle.results.proofs.gateway_calls.abandon as step
 use Rattle.host.proofs.gateway_calls.sealwax_abandon as export
 
 pub sealwax-abandon-spec : {M : Type 1} → export.Statement.statement M
@@ -14,4 +14,4 @@ sealwax-abandon-spec 𝓤 H 𝓜 𝓖 𝓡 =
     law Result.the-type Result.Laws.the-laws Result.Laws.the-plain (Done.struct .name) (Done.struct .as-values) (Done.the-type .to-one)
     (u64 ∷ []) (λ ticket. onTicket ticket abandon) outcomeOf 𝓤 H 𝓜 𝓖 𝓡
     export.Code.env export.Key.name step.Symbol.name (export.Code.unfolded 𝓤 H 𝓜 𝓡) export.Code.calls-host·change·apply
-    step.Symbol.routine export.Code.calls-host·gateway-calls·abandon-of (step.Met.met 𝓤 H 𝓜 𝓖 𝓡)
+    step.Symbol.routine export.Code.calls-results·gateway-calls·abandon (step.Met.met 𝓤 H 𝓜 𝓖 𝓡)

@@ -3,17 +3,17 @@ use mathlib.Core.Bool.{not}
 use lib.Dec.{eqb}
 use Rattle.exchange.specs.Steps.{openResult}
 use Rattle.gateway.specs.Calls.{onTicket}
-use Rattle.host.specs.Calls.{openedResult}
+use Rattle.results.specs.Calls.{stepResult}
 use Rattle.host.proofs.Exported.{law, u64, u8, [], _∷_}
-use Rattle.host.proofs.gateway_calls.OpenResult as Result
-use Rattle.host.proofs.gateway_calls.Opening as Done
-use Rattle.host.proofs.gateway_calls.open_of as step
+use Rattle.results.proofs.outcome.NumberResult as Result
+use Rattle.results.proofs.gateway_calls.Stepping as Done
+use Rattle.results.proofs.gateway_calls.open as step
 use Rattle.host.proofs.gateway_calls.sealwax_open as export
 
 pub sealwax-open-spec : {M : Type 1} → export.Statement.statement M
 unfolding export.Code.routine
 sealwax-open-spec 𝓤 H 𝓜 𝓖 𝓡 =
     law Result.the-type Result.Laws.the-laws Result.Laws.the-plain (Done.struct .name) (Done.struct .as-values) (Done.the-type .to-one)
-    (u64 ∷ u8 ∷ u64 ∷ []) (λ ticket success n. onTicket ticket (openResult (not (eqb success 0)) n)) openedResult 𝓤 H 𝓜 𝓖 𝓡
+    (u64 ∷ u8 ∷ u64 ∷ []) (λ ticket success n. onTicket ticket (openResult (not (eqb success 0)) n)) stepResult 𝓤 H 𝓜 𝓖 𝓡
     export.Code.env export.Key.name step.Symbol.name (export.Code.unfolded 𝓤 H 𝓜 𝓡) export.Code.calls-host·change·apply
-    step.Symbol.routine export.Code.calls-host·gateway-calls·open-of (step.Met.met 𝓤 H 𝓜 𝓖 𝓡)
+    step.Symbol.routine export.Code.calls-results·gateway-calls·open (step.Met.met 𝓤 H 𝓜 𝓖 𝓡)

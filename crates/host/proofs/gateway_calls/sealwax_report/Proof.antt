@@ -36,11 +36,11 @@ use denote.Triple.Walked.{says, Stays, walkOf, Walks, ends-at, walked}
 use Rattle.gateway.specs.declared.Gateway.{Gateway}
 use Rattle.gateway.specs.Calls.{reporting, gatewayDoes}
 use Rattle.gateway.proofs.Gateway as T
-use Rattle.host.specs.Calls.{reportResult}
-use Rattle.host.specs.declared.gateway_calls.ReportResult.{ReportResult}
+use Rattle.results.specs.Calls.{reportResult}
+use Rattle.results.specs.declared.gateway_calls.ReportResult.{ReportResult}
 use Rattle.host.proofs.Walking.{given-up, given-up-go, returned, framed, proved}
-use Rattle.host.proofs.gateway_calls.ReportResult as N
-use Rattle.host.proofs.gateway_calls.report_of as step
+use Rattle.results.proofs.gateway_calls.ReportResult as N
+use Rattle.results.proofs.gateway_calls.report as step
 use Rattle.host.proofs.gateway_calls.sealwax_report as f
 
 abbrev stayed : Stays (f.ended .signature .params) (f.ended .kept)
@@ -128,5 +128,5 @@ sealwax-report-spec 𝓤 H 𝓜 𝓖 𝓡 =
     proved 𝓤 H 𝓜 𝓖 𝓡 f.Code.env f.ended stayed (f.clauses 𝓤 H (𝓖 .A) (𝓜 .mem) (𝓡 .run)) f.Key.name f.Code.function (f.Code.unfolded 𝓤 H 𝓜 𝓡)
     (given-up-go 𝓤 H (𝓖 .A) W 1 (f.ended .signature .params) (f.ended .kept))
     (walks 𝓤 H (𝓖 .A) W (𝓜 .mem) (𝓡 .run) (tables 𝓤 H 𝓜 𝓡 f.Code.env .C) (tables 𝓤 H 𝓜 𝓡 f.Code.env .Λ) (framed 𝓤 H 𝓜 𝓖 𝓡 f.Code.env)
-    (cited 𝓤 H (Step 𝓤 H (𝓖 .A) W (𝓜 .mem) (𝓡 .run)) 𝓜 𝓡 f.Code.env step.Symbol.name step.Symbol.routine f.Code.calls-host·gateway-calls·report-of
+    (cited 𝓤 H (Step 𝓤 H (𝓖 .A) W (𝓜 .mem) (𝓡 .run)) 𝓜 𝓡 f.Code.env step.Symbol.name step.Symbol.routine f.Code.calls-results·gateway-calls·report
     (step.Met.met 𝓤 H 𝓜 𝓖 𝓡)))

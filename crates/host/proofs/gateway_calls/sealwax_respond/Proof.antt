@@ -1,17 +1,17 @@
 -- `host::gateway_calls::sealwax_respond` meets its contract, by the law for exported calls. Assumes nothing.
 use Rattle.exchange.specs.Steps.{respond}
 use Rattle.gateway.specs.Calls.{onTicket}
-use Rattle.host.specs.Calls.{respondResult}
+use Rattle.results.specs.Calls.{stepResult}
 use Rattle.host.proofs.Exported.{law, buffer, bytes, u64, [], _∷_}
-use Rattle.host.proofs.gateway_calls.RespondResult as Result
-use Rattle.host.proofs.gateway_calls.Responding as Done
-use Rattle.host.proofs.gateway_calls.respond_of as step
+use Rattle.results.proofs.outcome.NumberResult as Result
+use Rattle.results.proofs.gateway_calls.Stepping as Done
+use Rattle.results.proofs.gateway_calls.respond as step
 use Rattle.host.proofs.gateway_calls.sealwax_respond as export
 
 pub sealwax-respond-spec : {M : Type 1} → export.Statement.statement M
 unfolding export.Code.routine
 sealwax-respond-spec 𝓤 H 𝓜 𝓖 𝓡 =
     law Result.the-type Result.Laws.the-laws Result.Laws.the-plain (Done.struct .name) (Done.struct .as-values) (Done.the-type .to-one)
-    (u64 ∷ bytes ∷ bytes ∷ u64 ∷ buffer ∷ []) (λ ticket enc nonce plain salt. onTicket ticket (respond enc nonce plain salt)) respondResult 𝓤 H 𝓜 𝓖 𝓡
+    (u64 ∷ bytes ∷ bytes ∷ u64 ∷ buffer ∷ []) (λ ticket enc nonce plain salt. onTicket ticket (respond enc nonce plain salt)) stepResult 𝓤 H 𝓜 𝓖 𝓡
     export.Code.env export.Key.name step.Symbol.name (export.Code.unfolded 𝓤 H 𝓜 𝓡) export.Code.calls-host·change·apply
-    step.Symbol.routine export.Code.calls-host·gateway-calls·respond-of (step.Met.met 𝓤 H 𝓜 𝓖 𝓡)
+    step.Symbol.routine export.Code.calls-results·gateway-calls·respond (step.Met.met 𝓤 H 𝓜 𝓖 𝓡)

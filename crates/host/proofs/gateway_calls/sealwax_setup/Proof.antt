@@ -43,13 +43,13 @@ use Rattle.gateway.specs.declared.Gateway.{Gateway}
 use Rattle.gateway.specs.Registry.{setup, setupAnswer}
 use Rattle.gateway.specs.Gateway.{freshGateway}
 use Rattle.gateway.proofs.Gateway as T
-use Rattle.host.specs.Calls.{setupResult}
-use Rattle.host.specs.declared.gateway_calls.Fresh.{Fresh}
+use Rattle.results.specs.Calls.{setupResult}
+use Rattle.results.specs.declared.gateway_calls.Fresh.{Fresh}
 use Rattle.host.proofs.Parameters.{Parameter, bytes, u64, types-of, slots, kept, rows, spelled, told, valued, values, typed}
 use Rattle.host.proofs.Walking.{given-up, given-up-go, returned, framed, proved}
-use Rattle.host.proofs.gateway_calls.Fresh as S
-use Rattle.host.proofs.gateway_calls.SetupResult as N
-use Rattle.host.proofs.gateway_calls.fresh_of as step
+use Rattle.results.proofs.gateway_calls.Fresh as S
+use Rattle.results.proofs.outcome.NumberResult as N
+use Rattle.results.proofs.gateway_calls.setup as step
 use Rattle.host.proofs.gateway_calls.sealwax_setup as f
 
 -- list and cap
@@ -157,5 +157,5 @@ sealwax-setup-spec 𝓤 H 𝓜 𝓖 𝓡 =
     proved 𝓤 H 𝓜 𝓖 𝓡 f.Code.env f.ended stayed (f.clauses 𝓤 H (𝓖 .A) (𝓜 .mem) (𝓡 .run)) f.Key.name f.Code.function (f.Code.unfolded 𝓤 H 𝓜 𝓡)
     (goes-ref 𝓤 H (𝓖 .A) W 2 0 tt (plain (λ _. T.the-row)), given-up-go 𝓤 H (𝓖 .A) W 2 (slots 2 1 ps) (kept 2 1 ps))
     (walks 𝓤 H (𝓖 .A) W (𝓜 .mem) (𝓡 .run) (tables 𝓤 H 𝓜 𝓡 f.Code.env .C) (tables 𝓤 H 𝓜 𝓡 f.Code.env .Λ) (framed 𝓤 H 𝓜 𝓖 𝓡 f.Code.env)
-    (cited 𝓤 H (Step 𝓤 H (𝓖 .A) W (𝓜 .mem) (𝓡 .run)) 𝓜 𝓡 f.Code.env step.Symbol.name step.Symbol.routine f.Code.calls-host·gateway-calls·fresh-of
+    (cited 𝓤 H (Step 𝓤 H (𝓖 .A) W (𝓜 .mem) (𝓡 .run)) 𝓜 𝓡 f.Code.env step.Symbol.name step.Symbol.routine f.Code.calls-results·gateway-calls·setup
     (step.Met.met 𝓤 H 𝓜 𝓖 𝓡)))

@@ -1,19 +1,17 @@
 -- `host::list_calls::sealwax_check` meets its contract.
 -- Assumes nothing.
 use mathlib.Core.Path.{ap, _∙_}
-use Rattle.host.specs.Lists.{checkResult}
+use Rattle.results.specs.Lists.{checkResult}
 use borrow.Author.Needs.{needs}
 use Rattle.host.proofs.list_calls.sealwax_check.Statement.{statement}
 use Rattle.host.proofs.list_calls.sealwax_check.Tie as tie
-
-check-requires : tie.Need-check-requires
-check-requires c κs = search needs
-
-check-result-requires : tie.Need-check-result-requires
-check-result-requires c κs = search needs
 
 returns : tie.Need-returns
 returns c = c .check-result .ensures ∙ ap checkResult (c .before .check .ensures)
 
 pub sealwax-check-spec : {M : Type 1} → statement M
-sealwax-check-spec = tie.close (tie.spec check-requires check-result-requires returns)
+sealwax-check-spec = tie.close
+    (tie.spec
+    (λ c κs. search needs)
+    (λ c κs. search needs)
+    returns)
