@@ -3,7 +3,7 @@
 use mathlib.Core.Path.{_≡_, refl, ap}
 use mathlib.Core.Bool.{Bool, true, false, not}
 use mathlib.Core.List.{List, [], _∷_}
-use Prim.Native.Nat.{ℕ, zero, suc, _≤_, _<_, suc-le-suc}
+use Prim.Native.Nat.{ℕ, zero, suc, _-_, _≤_, _<_, suc-le-suc}
 use native.Mathlib.Nat.{not-suc-le-zero, le-of-suc-le-suc}
 use native.Mathlib.Omega.{arith}
 use borrow.Author.Tests.{eq-eqb, ne-eqb, le-leb, lt-leb, ltb-true, ltb-false}
@@ -84,3 +84,10 @@ among-at xs x k h here = any-at 0 (λ n. eqb n x) xs k h (eq-eqb (getD xs k 0) x
 
 pub among-none : (xs : List ℕ) (x k : ℕ) → length xs ≤ k → ((j : ℕ) → j < k → getD xs j 0 ≡ x → ⊥) → among xs x ≡ false
 among-none xs x k h none = any-none 0 (λ n. eqb n x) xs (λ j l. ne-eqb (getD xs j 0) x (none j (omega arith)))
+
+-- a loop that seeks a number in a list: its invariant, none before the place is the one sought, and its measure
+abbrev pub NoneBefore : List ℕ → ℕ → ℕ → ℕ → Type 0
+NoneBefore xs x at₀ at = (j : ℕ) → j < at → getD xs j 0 ≡ x → ⊥
+
+abbrev pub behind : List ℕ → ℕ → ℕ → ℕ → ℕ
+behind xs x at₀ at = length xs - at

@@ -24,44 +24,12 @@ returns c =
     let a = c .before .before .before .args in
     sym (overwritten-beyond (a .buffer .now) (a .at) (a .bytes .now) (omega arith))
 
-sub-smaller : tie.Need-sub-smaller Inv-loop μ-loop
-sub-smaller c = search needs
-
-smaller-requires : tie.Need-smaller-requires Inv-loop μ-loop
-smaller-requires c κs = search needs
-
-loop-holds : tie.Need-loop-holds Inv-loop μ-loop
-loop-holds c =
-    let a = c .before .before .before .before .args in
-    (omega arith, refl, paste-zero (a .buffer .now) (a .at) (a .bytes .now))
-
-shared-slice-read-buffer : tie.Need-shared-slice-read-buffer Inv-loop μ-loop
-shared-slice-read-buffer c = search needs
-
-add-buffer : tie.Need-add-buffer Inv-loop μ-loop
-add-buffer c = search needs
-
-slice-write-buffer : tie.Need-slice-write-buffer Inv-loop μ-loop
-slice-write-buffer c = search needs
-
-add-done : tie.Need-add-done Inv-loop μ-loop
-add-done c = search needs
-
-loop-less : tie.Need-loop-less Inv-loop μ-loop
-loop-less c = search needs
-
 loop-again : tie.Need-loop-again Inv-loop μ-loop
 loop-again c =
     let a = c .before .before .before .before .before .before .before .args in
     let l = c .before .before .loop in
-    let eq : l .buffer ≡ paste (a .buffer .now) (a .at) (a .bytes .now) (l .done) = l .inv .2 in (
-      omega arith,
-      simp length-set (l .inv .1),
-      rw (l .inv .2, paste-suc (a .buffer .now) (a .at) (a .bytes .now) (l .done) 0 (omega arith) (omega arith), add-one),
-    )
-
-same-length : tie.Need-same-length Inv-loop μ-loop
-same-length c = c .before .loop .inv .1
+    let next = paste-suc (a .buffer .now) (a .at) (a .bytes .now) (l .done) 0 (omega arith) (omega arith) in
+    (omega arith, simp length-set (l .inv .1), rw (l .inv .2, next, add-one))
 
 returns-2 : tie.Need-returns-2 Inv-loop μ-loop
 returns-2 c =
@@ -70,20 +38,7 @@ returns-2 c =
     rw (l .inv .2, e, c .before .before .smaller .ensures)
 
 pub overwrite-spec : {M : Type 1} → statement M
-overwrite-spec =
-    tie.close
-    (tie.spec
-    Inv-loop
-    μ-loop
-    returns
-    sub-smaller
-    smaller-requires
-    loop-holds
-    shared-slice-read-buffer
-    add-buffer
-    slice-write-buffer
-    add-done
-    loop-less
-    loop-again
-    same-length
-    returns-2)
+overwrite-spec = tie.close (tie.spec Inv-loop μ-loop returns (λ c. search needs) (λ c κs. search needs)
+    (λ c. let a = c .before .before .before .before .args in (omega arith, refl, paste-zero (a .buffer .now) (a .at) (a .bytes .now)))
+    (λ c. search needs) (λ c. search needs) (λ c. search needs) (λ c. search needs) (λ c. search needs)
+    loop-again (λ c. c .before .loop .inv .1) returns-2)

@@ -8,23 +8,8 @@ use borrow.Author.Needs.{needs}
 use Rattle.wire.proofs.texts.info.Statement.{statement}
 use Rattle.wire.proofs.texts.info.Tie as tie
 
-slice-aggregate-overwrite : tie.Need-slice-aggregate-overwrite
-slice-aggregate-overwrite c = search needs
-
-slice-aggregate-overwrite-2 : tie.Need-slice-aggregate-overwrite-2
-slice-aggregate-overwrite-2 c = search needs
-
-overwrite-requires : tie.Need-overwrite-requires
-overwrite-requires c κs = search needs
-
-slice-aggregate-overwrite-3 : tie.Need-slice-aggregate-overwrite-3
-slice-aggregate-overwrite-3 c = search needs
-
 slice-aggregate-overwrite-4 : tie.Need-slice-aggregate-overwrite-4
 slice-aggregate-overwrite-4 c = search needs
-
-overwrite-requires-2 : tie.Need-overwrite-requires-2
-overwrite-requires-2 c κs = search needs
 
 returns : tie.Need-returns
 unfolding requestLabel
@@ -34,13 +19,5 @@ returns c =
     c .before .overwrite2 .ensures ∙ rw (c .before .before .before .before .before .overwrite .ensures) (info-parts head size)
 
 pub info-spec : {M : Type 1} → statement M
-info-spec =
-    tie.close
-    (tie.spec
-    slice-aggregate-overwrite
-    slice-aggregate-overwrite-2
-    overwrite-requires
-    slice-aggregate-overwrite-3
-    slice-aggregate-overwrite-4
-    overwrite-requires-2
-    returns)
+info-spec = tie.close (tie.spec (λ c. search needs) (λ c. search needs) (λ c κs. search needs) (λ c. search needs)
+    slice-aggregate-overwrite-4 (λ c κs. search needs) returns)
