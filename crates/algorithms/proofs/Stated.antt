@@ -52,47 +52,33 @@ known-numbers =
       exportOnly = refl;
     }
 
--- the tests that every row passes, computed over the table
-keyTest : Row → Bool
-keyTest row = leb (row .«public_key») 133
-
-encTest : Row → Bool
-encTest row = eqb (row .enc) (row .«public_key»)
-
-nonceTest : Row → Bool
-nonceTest row = leb (row .key) 32
-
-kemTest : Row → Bool
-kemTest row = pick (eqb (row .kind) kemKind) (ltb 0 (row .«public_key»)) true
-
-noneTest : Row → Bool
-noneTest row = pick (eqb (row .kind) 0) (eqb (row .«public_key») 0) true
-
+-- each test below passes at every row, computed over the table
 no-key-unknown : (n : ℕ) → knownKem n ≡ false → publicKeyLength n ≡ 0
-unfolding knownKem publicKeyLength noneTest table
+unfolding knownKem publicKeyLength table
 no-key-unknown n h =
-    eqb-true (rowOf kemKind n .«public_key») 0
-    (rw (not-false (eqb (rowOf kemKind n .kind) 0) h) at (of-row noneTest refl refl kemKind n))
+    eqb-true _ _
+    (rw (not-false (eqb (rowOf kemKind n .kind) 0) h)
+    at (of-row (λ row. pick (eqb (row .kind) 0) (eqb (row .«public_key») 0) true) refl refl kemKind n))
 
 key-is-there : (n : ℕ) → knownKem n ≡ true → 0 < publicKeyLength n
-unfolding knownKem publicKeyLength rowOf kemTest table
+unfolding knownKem publicKeyLength rowOf table
 key-is-there n h =
     let place = firstPlace (isRow kemKind n) table in
     either (ltb place (length table))
     (λ found.
     let is = first-passes noRow (isRow kemKind n) table (ltb-true place (length table) found) in
-    ltb-true 0 (rowOf kemKind n .«public_key»)
+    ltb-true _ _
     (rw (and-left (eqb (rowOf kemKind n .kind) kemKind) (eqb (rowOf kemKind n .number) n) is)
-    at (of-row kemTest refl refl kemKind n)))
+    at (of-row (λ row. pick (eqb (row .kind) kemKind) (ltb 0 (row .«public_key»)) true) refl refl kemKind n)))
     (λ none. absurd (true-or-false h (rw (List·getD-eq-default table noRow (ltb-false place (length table) none)))))
 
 pub size-bounds : SizeBounds
-unfolding knownKem publicKeyLength encLength keyLength table keyTest encTest nonceTest
+unfolding knownKem publicKeyLength encLength keyLength table
 size-bounds =
     record {
       keyIsThere = key-is-there;
       noKeyUnknown = no-key-unknown;
-      keyBound = λ n. leb-true (rowOf kemKind n .«public_key») 133 (of-row keyTest refl refl kemKind n);
-      encIsKey = λ n. eqb-true (rowOf kemKind n .enc) (rowOf kemKind n .«public_key») (of-row encTest refl refl kemKind n);
-      nonceBound = λ n. let h : rowOf aeadKind n .key ≤ 32 = leb-true (rowOf aeadKind n .key) 32 (of-row nonceTest refl refl aeadKind n) in omega arith;
+      keyBound = λ n. leb-true _ _ (of-row (λ row. leb (row .«public_key») 133) refl refl kemKind n);
+      encIsKey = λ n. eqb-true _ _ (of-row (λ row. eqb (row .enc) (row .«public_key»)) refl refl kemKind n);
+      nonceBound = λ n. let h : rowOf aeadKind n .key ≤ 32 = leb-true _ _ (of-row (λ row. leb (row .key) 32) refl refl aeadKind n) in omega arith;
     }

@@ -6,18 +6,9 @@ use borrow.Author.Needs.{needs}
 use Rattle.algorithms.proofs.Kem.enc_length.Statement.{statement}
 use Rattle.algorithms.proofs.Kem.enc_length.Tie as tie
 
-row-requires : tie.Need-row-requires
-row-requires c κs = search needs
-
-cast-size : tie.Need-cast-size
-cast-size c = search needs
-
-size-requires : tie.Need-size-requires
-size-requires c κs = search needs
-
 returns : tie.Need-returns
 unfolding knownKem encLength
 returns c = c .size .ensures ∙ rw (c .before .before .row .ensures)
 
 pub enc-length-spec : {M : Type 1} → statement M
-enc-length-spec = tie.close (tie.spec row-requires cast-size size-requires returns)
+enc-length-spec = tie.close (tie.spec (λ c κs. search needs) (λ c. search needs) (λ c κs. search needs) returns)
