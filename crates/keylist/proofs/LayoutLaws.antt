@@ -17,14 +17,11 @@ use Rattle.keylist.specs.Layout.{layoutHolds, nextStart, kemAt, lengthAt
 -- a KEM with a key length above 0 is known, and one with 0 is not
 pub known-by-length : (kem : ℕ) → 0 < publicKeyLength kem → knownKem kem ≡ true
 known-by-length kem h =
-    either (knownKem kem) (λ e. e)
-    (λ e. absurd (let z : publicKeyLength kem ≡ 0 = size-bounds .noKeyUnknown kem e in omega arith))
+    either (knownKem kem) (λ e. e) (λ e. absurd (omega (arith, size-bounds .noKeyUnknown kem e)))
 
 pub unknown-by-length : (kem : ℕ) → publicKeyLength kem ≡ 0 → knownKem kem ≡ false
 unknown-by-length kem h =
-    either (knownKem kem)
-    (λ e. absurd (let z : 0 < publicKeyLength kem = size-bounds .keyIsThere kem e in omega arith))
-    (λ e. e)
+    either (knownKem kem) (λ e. absurd (omega (arith, size-bounds .keyIsThere kem e))) (λ e. e)
 
 -- above the house limit no number of pair bytes holds
 pub pairs-above : (size : ℕ) → mostPairBytes < size → pairBytesHold size ≡ false
@@ -36,35 +33,25 @@ module _ (bytes : List ℕ) (at : ℕ) where
   -- the list ends first
   pub holds-not-whole : length bytes < nextStart bytes at → layoutHolds bytes at ≡ false
   unfolding layoutHolds
-  holds-not-whole h = rw (lt-leb (nextStart bytes at) (length bytes) h)
+  holds-not-whole h = rw (lt-leb _ _ h)
 
   -- an unknown KEM
   pub holds-not-kem : nextStart bytes at ≤ length bytes → publicKeyLength (kemAt bytes at) ≡ 0 → layoutHolds bytes at ≡ false
   unfolding layoutHolds
-  holds-not-kem h k = rw (le-leb (nextStart bytes at) (length bytes) h, unknown-by-length (kemAt bytes at) k)
+  holds-not-kem h k = rw (le-leb _ _ h, unknown-by-length _ k)
 
   module _ (h : nextStart bytes at ≤ length bytes) (k : 0 < publicKeyLength (kemAt bytes at)) where
     -- L is not 5 + Npk + S
     pub holds-not-length : (lengthAt bytes at ≡ 5 + publicKeyLength (kemAt bytes at) + pairBytesAt bytes at → ⊥)
         → layoutHolds bytes at ≡ false
     unfolding layoutHolds
-    holds-not-length l =
-        rw (
-          le-leb (nextStart bytes at) (length bytes) h,
-          known-by-length (kemAt bytes at) k,
-          ne-eqb (lengthAt bytes at) (5 + publicKeyLength (kemAt bytes at) + pairBytesAt bytes at) l,
-        )
+    holds-not-length l = rw (le-leb _ _ h, known-by-length _ k, ne-eqb _ _ l)
 
     -- what is left to test is S
     pub holds-by-pairs : lengthAt bytes at ≡ 5 + publicKeyLength (kemAt bytes at) + pairBytesAt bytes at
         → layoutHolds bytes at ≡ pairBytesHold (pairBytesAt bytes at)
     unfolding layoutHolds
-    holds-by-pairs l =
-        rw (
-          le-leb (nextStart bytes at) (length bytes) h,
-          known-by-length (kemAt bytes at) k,
-          eq-eqb (lengthAt bytes at) (5 + publicKeyLength (kemAt bytes at) + pairBytesAt bytes at) l,
-        )
+    holds-by-pairs l = rw (le-leb _ _ h, known-by-length _ k, eq-eqb _ _ l)
 
 -- what a conjunction of tests says, part by part
 pub both : {a b : Bool} {P Q : Type 0} → (a ≡ true → P) → (b ≡ true → Q) → (a and b) ≡ true → P × Q
