@@ -9,30 +9,19 @@ use borrow.Author.Needs.{needs}
 use Rattle.request.proofs.enc_length.Statement.{statement}
 use Rattle.request.proofs.enc_length.Tie as tie
 
-enc-length-requires : tie.Need-enc-length-requires
-enc-length-requires c κs = search needs
-
-enum-known-size : tie.Need-enum-known-size
-enum-known-size c = search needs
-
-enum-told : tie.Need-enum-told
-enum-told c = search needs
-
 returns : tie.Need-returns
 returns c =
     let looked = c .before .before .before in
     let kem = looked .before .args .kem in
-    let e = known (knownKem kem) (encLength kem) (c .before .size .given .0 .0)
-    (sym (looked .enc-length .ensures) ∙ c .before .size .given .1) in
-    (sym (e .1), omega (arith, size-bounds .encIsKey kem, size-bounds .keyBound kem))
+    let is = known (knownKem kem) (encLength kem) _ (sym (looked .enc-length .ensures) ∙ c .before .size .given .1) in
+    (sym (is .1), omega (arith, size-bounds .encIsKey kem, size-bounds .keyBound kem))
 
 returns-2 : tie.Need-returns-2
 returns-2 c =
     let looked = c .before .before in
     let kem = looked .before .args .kem in
-    let e = unknown (knownKem kem) (encLength kem) (sym (looked .enc-length .ensures) ∙ c .enum-told .given .1) in
-    (omega (arith, size-bounds .encIsKey kem, size-bounds .noKeyUnknown kem e), omega arith)
+    let is = unknown (knownKem kem) (encLength kem) (sym (looked .enc-length .ensures) ∙ c .enum-told .given .1) in
+    (omega (arith, size-bounds .encIsKey kem, size-bounds .noKeyUnknown kem is), omega arith)
 
 pub enc-length-spec : {M : Type 1} → statement M
-enc-length-spec =
-    tie.close (tie.spec enc-length-requires enum-known-size enum-told returns returns-2)
+enc-length-spec = tie.close (tie.spec (λ c κs. search needs) (λ c. search needs) (λ c. search needs) returns returns-2)
