@@ -2,6 +2,7 @@
 -- exactly on refusal.
 -- Assumes nothing.
 use mathlib.Core.Path.{_≡_, refl, sym, ap, _∙_}
+use mathlib.Core.Bool.{true}
 use mathlib.Core.List.{List, [], _∷_}
 use mathlib.Core.Logic.{_↔_}
 use Prim.Native.Nat.{ℕ, _+_, _-_, _≤_, _<_}
@@ -15,14 +16,20 @@ use Rattle.wire.proofs.Booleans.{either}
 use Rattle.algorithms.specs.Sizes.{publicKeyLength}
 use Rattle.algorithms.proofs.Stated.{size-bounds}
 use Rattle.keylist.specs.declared.KeyPlace.{KeyPlace}
-use Rattle.keylist.specs.Layout.{Configuration, Outcome, good, bad, parse, configurationAt, keyIdAt, kemAt, keyStart, keyEnd, nextStart}
+use Rattle.keylist.specs.declared.Place.{Place}
+use Rattle.keylist.specs.Layout.{Configuration, Outcome, good, bad, parse, configurationAt, layoutHolds, keyIdAt, kemAt, keyStart, keyEnd, nextStart}
 use Rattle.keylist.specs.Answers.{keyPlaceIn, firstWithId, keyPart, placeAt, placeOf}
 use Rattle.keylist.specs.Stated.{EmptyOnRefusal}
-use Rattle.keylist.proofs.LayoutLaws.{Holds}
+use Rattle.keylist.proofs.LayoutLaws.{Holds, holds}
 use Rattle.keylist.proofs.Walk.{GoodFrom, GoodNext, walk-start, walk-next, walk-end, key-length-at}
 
 pub place-inside : (bytes : List ℕ) (at : ℕ) → at < length bytes → placeAt bytes at ≡ placeOf bytes at
 place-inside bytes at h = rw (lt-ltb at (length bytes) h)
+
+-- a place that was read where a configuration keeps the rules
+pub good-place : {bytes : List ℕ} {at : ℕ} {place : Place} → layoutHolds bytes at ≡ true → place ≡ placeAt bytes at
+    → Holds bytes at × (place ≡ placeOf bytes at)
+good-place {bytes} {at} h e = let is = holds bytes at h in (is, e ∙ place-inside bytes at (omega (arith, is .whole)))
 
 module _ (bytes : List ℕ) (at id : ℕ) {rest : List Configuration} (n : GoodNext bytes at rest) where
   -- the next configuration has the key id

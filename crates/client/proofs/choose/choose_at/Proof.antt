@@ -8,8 +8,8 @@ use borrow.Author.Needs.{needs}
 use Rattle.wire.specs.Search.{among}
 use Rattle.keylist.specs.Layout.{kemAt}
 use Rattle.keylist.specs.Answers.{placeOf}
-use Rattle.keylist.proofs.LayoutLaws.{Holds, holds}
-use Rattle.keylist.proofs.Keys.{place-inside}
+use Rattle.keylist.proofs.LayoutLaws.{Holds}
+use Rattle.keylist.proofs.Keys.{good-place}
 use Rattle.client.specs.Choose.{pairFound}
 use Rattle.client.proofs.Choosing.{pairsHere, other-kem, no-pair, chosen-here}
 use Rattle.client.proofs.choose.choose_at.Statement.{statement}
@@ -22,10 +22,7 @@ start c = c .before .before .before .before
 place-here : (c : tie.After-place-at)
     → Holds (start c .args .list .now) (start c .args .at)
     × (c .place-at .result ≡ placeOf (start c .args .list .now) (start c .args .at))
-place-here c =
-    let a = start c .args in
-    let h = holds (a .list .now) (a .at) (start c .pre) in
-    (h, c .place-at .ensures ∙ place-inside (a .list .now) (a .at) (omega (arith, h .whole)))
+place-here c = good-place (start c .pre) (c .place-at .ensures)
 
 kem-here : (c : tie.After-has-word)
     → c .has-word .result
@@ -38,27 +35,13 @@ pair-here : (c : tie.After-first-usable)
 pair-here c =
     rw (c .before .before .word-at .ensures, place-here (c .before .before .before .before .before) .1) at (c .first-usable .ensures)
 
-place-at-requires : tie.Need-place-at-requires
-place-at-requires c κs = search needs
-
-has-word-requires : tie.Need-has-word-requires
-has-word-requires c κs = search needs
-
-refused-requires : tie.Need-refused-requires
-refused-requires c κs = search needs
-
 returns : tie.Need-returns
 returns c =
     let a = start (c .before .before .before) .args in
     let other = sym (kem-here (c .before .before)) ∙ not-true _ (c .before .if1 .taken) in
-    c .refused .ensures ∙ sym (other-kem (a .kems .now) (a .pairs .now) (a .list .now) (a .at) other)
+    rw (c .refused .ensures) (sym (other-kem (a .kems .now) (a .pairs .now) (a .list .now) (a .at) other))
 
-word-at-requires : tie.Need-word-at-requires
-word-at-requires c κs = search needs
-
-cast-count : tie.Need-cast-count
-cast-count c = search needs
-
+-- S lies in the list, and so does what follows it
 add-first-usable : tie.Need-add-first-usable
 add-first-usable c =
     let p = place-here (c .before .before .before .before) in
@@ -69,45 +52,22 @@ first-usable-requires c κs =
     let p = place-here (c .before .before .before .before) in
     rw (c .before .word-at .ensures, p .1) (omega (arith, p .0 .whole, p .0 .sizes))
 
-enum-known-kdf : tie.Need-enum-known-kdf
-enum-known-kdf c = search needs
-
-enum-told : tie.Need-enum-told
-enum-told c = search needs
-
-refused-requires-2 : tie.Need-refused-requires-2
-refused-requires-2 c κs = search needs
-
 returns-2 : tie.Need-returns-2
 returns-2 c =
-    let place = c .before .before .before .before .before .before .before .before in
-    let a = start place .args in
-    let p = place-here place in
-    let kem = kem-here (c .before .before .before .before .before .before .before) in
-    let listed = sym kem ∙ not-false _ (c .before .before .before .before .before .before .if1 .left) in
+    let tested = c .before .before .before .before .before .before in
+    let a = start (tested .before .before) .args in
+    let p = place-here (tested .before .before) in
+    let listed = sym (kem-here (tested .before)) ∙ not-false _ (tested .if1 .left) in
     let found = sym (pair-here (c .before .before .before)) ∙ c .before .kdf .given .1 in
-    rw (p .1) (sym (chosen-here (a .kems .now) (a .pairs .now) (a .list .now) (a .at) (p .0) listed found))
+    rw (p .1) (sym (chosen-here (a .kems .now) (a .pairs .now) _ _ (p .0) listed found))
 
 returns-3 : tie.Need-returns-3
 returns-3 c =
     let a = start (c .before .before .before .before .before .before .before .before) .args in
     let none = sym (pair-here (c .before .before .before)) ∙ c .before .enum-told .given .1 in
-    c .refused2 .ensures ∙ sym (no-pair (a .kems .now) (a .pairs .now) (a .list .now) (a .at) none)
+    rw (c .refused2 .ensures) (sym (no-pair (a .kems .now) (a .pairs .now) (a .list .now) (a .at) none))
 
 pub choose-at-spec : {M : Type 1} → statement M
-choose-at-spec =
-    tie.close
-    (tie.spec
-    place-at-requires
-    has-word-requires
-    refused-requires
-    returns
-    word-at-requires
-    cast-count
-    add-first-usable
-    first-usable-requires
-    enum-known-kdf
-    enum-told
-    refused-requires-2
-    returns-2
-    returns-3)
+choose-at-spec = tie.close (tie.spec (λ c κs. search needs) (λ c κs. search needs) (λ c κs. search needs) returns
+    (λ c κs. search needs) (λ c. search needs) add-first-usable first-usable-requires (λ c. search needs) (λ c. search needs)
+    (λ c κs. search needs) returns-2 returns-3)

@@ -1,7 +1,7 @@
 -- `client::choose::choose_in_good` meets its contract. The loop's invariant: the choice is the choice among the configurations that
 -- are left, and at the offset the first of them starts. The measure is what is left of the list.
 -- Assumes nothing.
-use mathlib.Core.Path.{ap, _≡_, sym, _∙_}
+use mathlib.Core.Path.{_≡_, sym, _∙_}
 use Prim.Native.Nat.{_-_, _≤_}
 use native.Mathlib.Omega.{arith}
 use borrow.Author.Needs.{needs}
@@ -10,7 +10,6 @@ use lib.ListN.{length}
 use Rattle.keylist.proofs.Walk.{GoodFrom, GoodNext, walk-start, walk-next, walk-end}
 use Rattle.keylist.specs.Layout.{parse, nextStart}
 use Rattle.client.specs.Choose.{chooseFrom, chooseFirst}
-use Rattle.keylist.specs.declared.Place.{Place}
 use Rattle.keylist.proofs.Keys.{place-inside}
 use Rattle.keylist.proofs.LayoutLaws.{good-layout}
 use Rattle.client.proofs.Choosing.{chosen-first, chosen-later}
@@ -27,82 +26,42 @@ abbrev μ-loop : tie.MeasureT-loop
 loop-holds : tie.Need-loop-holds Inv-loop μ-loop
 unfolding walk-start
 loop-holds c =
-    let a = c .before .before .before .args in
     let p = c .before .before .before .pre in
-    (walk-start (a .list .now) (p .0 .0) (p .0 .1), rw (p .0 .1, eq-eqb _ _ (p .1)), omega arith)
+    (walk-start _ (p .0 .0) (p .0 .1), rw (p .0 .1, eq-eqb _ _ (p .1)), omega arith)
 
 -- what is known of the configuration at the loop's offset
 next : (c : tie.In-loop Inv-loop μ-loop)
     → GoodNext (c .before .before .before .before .before .args .list .now) (c .before .loop .at) (c .before .loop .inv .0 .rest)
-next c =
-    let l = c .before .loop in
-    walk-next (c .before .before .before .before .before .args .list .now) (l .at) (l .inv .0) (omega arith)
-
-choose-at-requires : tie.Need-choose-at-requires Inv-loop μ-loop
-choose-at-requires c κs =
-    good-layout (c .before .before .before .before .before .args .list .now) (c .before .loop .at) (next c .holding)
-
-enum-known-choice : tie.Need-enum-known-choice Inv-loop μ-loop
-enum-known-choice c = search needs
+next c = walk-next _ _ (c .before .loop .inv .0) (omega arith)
 
 returns : tie.Need-returns Inv-loop μ-loop
 returns c =
     let a = c .before .before .before .before .before .before .before .before .before .args in
-    let l = c .before .before .before .before .before .loop in
     let n = next (c .before .before .before .before) in
-    let here = sym (c .before .before .before .choose-at .ensures) ∙ c .before .choice .given .1 in
-    sym (l .inv .1 ∙ chosen-first (a .kems .now) (a .pairs .now) (a .list .now) (l .at) n here)
-
-enum-told : tie.Need-enum-told Inv-loop μ-loop
-enum-told c = search needs
-
-place-at-requires : tie.Need-place-at-requires Inv-loop μ-loop
-place-at-requires c κs = search needs
+    rw (c .before .before .before .before .before .loop .inv .1)
+    (sym (chosen-first (a .kems .now) (a .pairs .now) _ _ n (rw (← c .before .before .before .choose-at .ensures) (c .before .choice .given .1))))
 
 -- the offset that the loop goes on from is where the next configuration starts
 goes-on : (c : tie.After-place-at Inv-loop μ-loop)
-    → (let l = c .before .before .before .before .before .loop in
-    let list = c .before .before .before .before .before .before .before .before .before .args .list .now in
-    c .place-at .result .end ≡ nextStart list (l .at))
+    → let list = c .before .before .before .before .before .before .before .before .before .args .list .now in
+    c .place-at .result .end ≡ nextStart list (c .before .before .before .before .before .loop .at)
 goes-on c =
-    let l = c .before .before .before .before .before .loop in
     let list = c .before .before .before .before .before .before .before .before .before .args .list .now in
-    ap (λ (p : Place). p .end) (c .place-at .ensures ∙ place-inside list (l .at) (omega arith))
-
-loop-less : tie.Need-loop-less Inv-loop μ-loop
-loop-less c = omega (arith, goes-on c)
+    rw (c .place-at .ensures, place-inside list (c .before .before .before .before .before .loop .at) (omega arith))
 
 loop-again : tie.Need-loop-again Inv-loop μ-loop
 loop-again c =
     let a = c .before .before .before .before .before .before .before .before .before .args in
-    let l = c .before .before .before .before .before .loop in
     let n = next (c .before .before .before .before) in
-    let here = sym (c .before .before .before .choose-at .ensures) ∙ c .before .enum-told .given .1 in
-    let later = l .inv .1 ∙ chosen-later (a .kems .now) (a .pairs .now) (a .list .now) (l .at) n here in
+    let here = rw (c .before .before .before .choose-at .ensures) at (c .before .enum-told .given .1) in
+    let later = c .before .before .before .before .before .loop .inv .1 ∙ chosen-later (a .kems .now) (a .pairs .now) _ _ n here in
     rw (goes-on c) (n .next, later, n .holding .whole)
-
-refused-requires : tie.Need-refused-requires Inv-loop μ-loop
-refused-requires c κs = search needs
 
 returns-2 : tie.Need-returns-2 Inv-loop μ-loop
 returns-2 c =
-    let list = c .before .before .before .before .before .before .args .list .now in
     let l = c .before .before .loop in
-    rw (l .inv .1, walk-end list (l .at) (l .inv .0) (omega arith)) (c .refused .ensures)
+    rw (l .inv .1, walk-end _ (l .at) (l .inv .0) (omega arith)) (c .refused .ensures)
 
 pub choose-in-good-spec : {M : Type 1} → statement M
-choose-in-good-spec =
-    tie.close
-    (tie.spec
-    Inv-loop
-    μ-loop
-    loop-holds
-    choose-at-requires
-    enum-known-choice
-    returns
-    enum-told
-    place-at-requires
-    loop-less
-    loop-again
-    refused-requires
-    returns-2)
+choose-in-good-spec = tie.close (tie.spec Inv-loop μ-loop loop-holds (λ c κs. good-layout _ _ (next c .holding)) (λ c. search needs) returns
+    (λ c. search needs) (λ c κs. search needs) (λ c. omega (arith, goes-on c)) loop-again (λ c κs. search needs) returns-2)

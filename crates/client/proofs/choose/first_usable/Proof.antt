@@ -21,21 +21,6 @@ Inv-loop list from count pairs at₀ left₀ at left =
 abbrev μ-loop : tie.MeasureT-loop
 μ-loop list from count pairs at₀ left₀ at left = left
 
-loop-holds : tie.Need-loop-holds Inv-loop μ-loop
-loop-holds c = search needs
-
-word-at-requires : tie.Need-word-at-requires Inv-loop μ-loop
-word-at-requires c κs = search needs
-
-add-word-at : tie.Need-add-word-at Inv-loop μ-loop
-add-word-at c = search needs
-
-word-at-requires-2 : tie.Need-word-at-requires-2 Inv-loop μ-loop
-word-at-requires-2 c κs = search needs
-
-is-usable-pair-requires : tie.Need-is-usable-pair-requires Inv-loop μ-loop
-is-usable-pair-requires c κs = search needs
-
 -- the search, one pair on
 one-on : (c : tie.After-is-usable-pair Inv-loop μ-loop)
     → (let a = c .before .before .before .before .before .before .before .args in
@@ -49,41 +34,8 @@ one-on c =
     rw (c .is-usable-pair .ensures, c .before .before .word-at .ensures, c .before .word-at2 .ensures)
     (l .inv .0 ∙ found-step (a .pairs .now) (a .list .now) (l .left) (l .at) (omega arith))
 
-returns : tie.Need-returns Inv-loop μ-loop
-returns c = rw (one-on (c .before), c .if1 .taken)
-
-add-at : tie.Need-add-at Inv-loop μ-loop
-add-at c = search needs
-
-sub-left : tie.Need-sub-left Inv-loop μ-loop
-sub-left c = search needs
-
-loop-less : tie.Need-loop-less Inv-loop μ-loop
-loop-less c = search needs
-
-loop-again : tie.Need-loop-again Inv-loop μ-loop
-loop-again c = (rw (one-on (c .before), c .if1 .left), omega arith)
-
-returns-2 : tie.Need-returns-2 Inv-loop μ-loop
-returns-2 c =
-    let a = c .before .before .before .before .args in
-    let l = c .before .loop in
-    rw (l .inv .0, found-end (a .pairs .now) (a .list .now) (l .left) (l .at) (omega arith))
-
 pub first-usable-spec : {M : Type 1} → statement M
-first-usable-spec =
-    tie.close
-    (tie.spec
-    Inv-loop
-    μ-loop
-    loop-holds
-    word-at-requires
-    add-word-at
-    word-at-requires-2
-    is-usable-pair-requires
-    returns
-    add-at
-    sub-left
-    loop-less
-    loop-again
-    returns-2)
+first-usable-spec = tie.close (tie.spec Inv-loop μ-loop (λ c. search needs) (λ c κs. search needs) (λ c. search needs)
+    (λ c κs. search needs) (λ c κs. search needs) (λ c. rw (one-on (c .before), c .if1 .taken)) (λ c. search needs) (λ c. search needs)
+    (λ c. search needs) (λ c. (rw (one-on (c .before), c .if1 .left), omega arith))
+    (λ c. rw (c .before .loop .inv .0, found-end _ _ (c .before .loop .left) (c .before .loop .at) (omega arith))))

@@ -22,36 +22,12 @@ Inv-loop pairs kdf aead at₀ at =
 abbrev μ-loop : tie.MeasureT-loop
 μ-loop pairs kdf aead at₀ at = length pairs - at
 
-loop-holds : tie.Need-loop-holds Inv-loop μ-loop
-loop-holds c = search needs
-
-add-loop : tie.Need-add-loop Inv-loop μ-loop
-add-loop c = search needs
-
-mul-are-same : tie.Need-mul-are-same Inv-loop μ-loop
-mul-are-same c = search needs
-
-shared-slice-read-are-same : tie.Need-shared-slice-read-are-same Inv-loop μ-loop
-shared-slice-read-are-same c = search needs
-
-add-are-same : tie.Need-add-are-same Inv-loop μ-loop
-add-are-same c = search needs
-
-mul-are-same-2 : tie.Need-mul-are-same-2 Inv-loop μ-loop
-mul-are-same-2 c = search needs
-
-shared-slice-read-are-same-2 : tie.Need-shared-slice-read-are-same-2 Inv-loop μ-loop
-shared-slice-read-are-same-2 c = search needs
-
-are-same-requires : tie.Need-are-same-requires Inv-loop μ-loop
-are-same-requires c κs = search needs
-
 -- the search, one pair on
 one-on : (c : tie.After-are-same Inv-loop μ-loop)
-    → (let a = c .before .before .before .before .before .before .args in
-    let l = c .before .before .before .before .loop in
+    → let a = c .before .before .before .before .before .before .args in
     let pair : Pair = record { kdf = a .kdf; aead = a .aead } in
-    listed (a .pairs .now) pair ≡ pick (c .are-same .result) true (listed (drop (l .at + 2) (a .pairs .now)) pair))
+    let rest = drop (c .before .before .before .before .loop .at + 2) (a .pairs .now) in
+    listed (a .pairs .now) pair ≡ pick (c .are-same .result) true (listed rest pair)
 one-on c =
     let l = c .before .before .before .before .loop in
     rw (c .are-same .ensures)
@@ -60,36 +36,12 @@ one-on c =
 returns : tie.Need-returns Inv-loop μ-loop
 returns c = rw (one-on (c .before), c .if1 .taken)
 
-add-at : tie.Need-add-at Inv-loop μ-loop
-add-at c = search needs
-
-loop-less : tie.Need-loop-less Inv-loop μ-loop
-loop-less c = search needs
-
-loop-again : tie.Need-loop-again Inv-loop μ-loop
-loop-again c = (rw (one-on (c .before), c .if1 .left), omega arith)
-
 returns-2 : tie.Need-returns-2 Inv-loop μ-loop
 returns-2 c =
     let l = c .before .loop in
     rw (l .inv .0, listed-end (c .before .before .before .args .pairs .now) (l .at) _ (omega arith))
 
 pub is-listed-spec : {M : Type 1} → statement M
-is-listed-spec =
-    tie.close
-    (tie.spec
-    Inv-loop
-    μ-loop
-    loop-holds
-    add-loop
-    mul-are-same
-    shared-slice-read-are-same
-    add-are-same
-    mul-are-same-2
-    shared-slice-read-are-same-2
-    are-same-requires
-    returns
-    add-at
-    loop-less
-    loop-again
-    returns-2)
+is-listed-spec = tie.close (tie.spec Inv-loop μ-loop (λ c. search needs) (λ c. search needs) (λ c. search needs)
+    (λ c. search needs) (λ c. search needs) (λ c. search needs) (λ c. search needs) (λ c κs. search needs) returns
+    (λ c. search needs) (λ c. search needs) (λ c. (rw (one-on (c .before), c .if1 .left), omega arith)) returns-2)

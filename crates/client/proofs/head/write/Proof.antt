@@ -1,6 +1,6 @@
 -- `client::head::write` meets its contract: the head and its info by the laws of writes at the front, and nothing on refusal.
 -- Assumes nothing.
-use mathlib.Core.Path.{_≡_, ap, _∙_}
+use mathlib.Core.Path.{_≡_, sym, _∙_}
 use Prim.Native.Nat.{_+_, _≤_}
 use native.Mathlib.Omega.{arith}
 use lib.ListN.{length}
@@ -8,7 +8,6 @@ use borrow.Author.Needs.{needs}
 use Rattle.wire.specs.Texts.{headLength, requestLabel, infoBytes, headBytes, infoLength}
 use Rattle.wire.proofs.Writes.{front-first, front-more}
 use Rattle.algorithms.specs.Sizes.{encLength}
-use Rattle.client.specs.declared.head.HeadAnswer.{HeadAnswer}
 use Rattle.client.proofs.Fronts.{head-refused, head-accepted}
 use Rattle.wire.proofs.Numbers.{unless-refused}
 use Rattle.client.proofs.head.write.Statement.{statement}
@@ -26,56 +25,14 @@ accepted : (c : tie.Else1)
     (length (a .enc .now) ≡ encLength (a .kem .0))
     × (headLength + encLength (a .kem .0) ≤ length (a .head .now))
     × (infoLength ≤ length (a .info .now))
-accepted c =
-    let a = c .before .before .before .before .before .args in
-    head-accepted (a .kem .0) (a .kdf .0) (a .aead .0) (a .enc .now) (length (a .head .now)) (length (a .info .now))
-    (rw (← c .before .refusal .ensures) (c .if1 .left))
-
-refusal-requires : tie.Need-refusal-requires
-refusal-requires c κs = search needs
-
-of-requires : tie.Need-of-requires
-of-requires c κs = search needs
+accepted c = head-accepted _ _ _ _ _ _ (sym (c .before .refusal .ensures) ∙ c .if1 .left)
 
 returns : tie.Need-returns
 returns c =
-    let a = c .before .before .before .before .before .before .args in
     let number = c .before .before .refusal .result in
     let refuses = c .before .if1 .taken in
-    rw (← c .before .before .refusal .ensures) (
-      ap HeadAnswer.Refused (c .of .ensures) ∙ head-refused number _ refuses,
-      (unless-refused number _ _ refuses, unless-refused number _ _ refuses),
-    )
-
-head-requires : tie.Need-head-requires
-head-requires c κs = search needs
-
-slice-aggregate-overwrite : tie.Need-slice-aggregate-overwrite
-slice-aggregate-overwrite c = search needs
-
-overwrite-requires : tie.Need-overwrite-requires
-overwrite-requires c κs = search needs
-
-overwrite-requires-2 : tie.Need-overwrite-requires-2
-overwrite-requires-2 c κs = search needs
-
-info-requires : tie.Need-info-requires
-info-requires c κs = search needs
-
-slice-aggregate-overwrite-2 : tie.Need-slice-aggregate-overwrite-2
-slice-aggregate-overwrite-2 c = search needs
-
-overwrite-requires-3 : tie.Need-overwrite-requires-3
-overwrite-requires-3 c κs = search needs
-
-add-t12 : tie.Need-add-t12
-add-t12 c = omega (arith, passed c .before .before .before .before .before)
-
-same-length : tie.Need-same-length
-same-length c = search needs
-
-same-length-2 : tie.Need-same-length-2
-same-length-2 c = search needs
+    rw (← c .before .before .refusal .ensures, c .of .ensures)
+    (head-refused number _ refuses, (unless-refused number _ _ refuses, unless-refused number _ _ refuses))
 
 returns-2 : tie.Need-returns-2
 unfolding requestLabel
@@ -99,20 +56,6 @@ returns-2 c =
     )
 
 pub write-spec : {M : Type 1} → statement M
-write-spec =
-    tie.close
-    (tie.spec
-    refusal-requires
-    of-requires
-    returns
-    head-requires
-    slice-aggregate-overwrite
-    overwrite-requires
-    overwrite-requires-2
-    info-requires
-    slice-aggregate-overwrite-2
-    overwrite-requires-3
-    add-t12
-    same-length
-    same-length-2
-    returns-2)
+write-spec = tie.close (tie.spec (λ c κs. search needs) (λ c κs. search needs) returns (λ c κs. search needs) (λ c. search needs)
+    (λ c κs. search needs) (λ c κs. search needs) (λ c κs. search needs) (λ c. search needs) (λ c κs. search needs)
+    (λ c. omega (arith, passed c .before .before .before .before .before)) (λ c. search needs) (λ c. search needs) returns-2)
