@@ -5,11 +5,11 @@ use mathlib.Core.Path.{_≡_, ap, ap₂, _∙_}
 use Prim.Native.Nat.{ℕ, _+_, _/_}
 use native.Mathlib.Omega.{arith}
 use borrow.Author.Needs.{needs}
-use Rattle.keylist.specs.Layout.{keyEnd, pairBytesAt, pairsAt}
+use Rattle.keylist.specs.Layout.{pairBytesAt, pairsAt}
 use Rattle.keylist.specs.declared.Place.{Place}
 use Rattle.keylist.specs.Answers.{placeOf}
-use Rattle.keylist.proofs.LayoutLaws.{Holds, holds}
-use Rattle.keylist.proofs.Keys.{place-inside}
+use Rattle.keylist.proofs.LayoutLaws.{Holds}
+use Rattle.keylist.proofs.Keys.{good-place}
 use Rattle.keys.specs.Stored.{mostPairs, padded, noPair}
 use Rattle.keys.proofs.Reading.{stored-here}
 use Rattle.keys.proofs.key_at.Statement.{statement}
@@ -22,27 +22,12 @@ start c = c .before .before
 place-here : (c : tie.After-place-at)
     → Holds (start c .args .list .now) (start c .args .at)
     × (c .place-at .result ≡ placeOf (start c .args .list .now) (start c .args .at))
-place-here c =
-    let a = start c .args in
-    let h = holds (a .list .now) (a .at) (start c .pre) in
-    (h, c .place-at .ensures ∙ place-inside (a .list .now) (a .at) (omega (arith, h .whole)))
+place-here c = good-place (start c .pre) (c .place-at .ensures)
 
 -- so is its number of pairs
 bytes-here : (c : tie.After-word-at)
     → c .word-at .result ≡ pairBytesAt (start (c .before) .args .list .now) (start (c .before) .args .at)
 bytes-here c = rw (place-here (c .before) .1) at (c .word-at .ensures)
-
-place-at-requires : tie.Need-place-at-requires
-place-at-requires c κs = search needs
-
-word-at-requires : tie.Need-word-at-requires
-word-at-requires c κs = search needs
-
-cast-count : tie.Need-cast-count
-cast-count c = search needs
-
-cast-t8 : tie.Need-cast-t8
-cast-t8 c = omega (arith, bytes-here c, place-here (c .before) .0 .pairs)
 
 add-pairs-at : tie.Need-add-pairs-at
 add-pairs-at c =
@@ -52,8 +37,7 @@ add-pairs-at c =
 pairs-at-requires : tie.Need-pairs-at-requires
 pairs-at-requires c κs =
     let p = place-here (c .before .before) in
-    let a = start (c .before .before) .args in
-    let end : c .before .before .place-at .result .«key_end» ≡ keyEnd (a .list .now) (a .at) = ap (λ (q : Place). q .«key_end») (p .1) in
+    let end = ap (λ (q : Place). q .«key_end») (p .1) in
     (omega (arith, end, bytes-here (c .before), p .0 .whole, p .0 .sizes), omega (arith, bytes-here (c .before), p .0 .pairs))
 
 returns : tie.Need-returns
@@ -67,13 +51,5 @@ returns c =
     (c .pairs-at .ensures ∙ ap₂ (λ (n from : ℕ). padded mostPairs noPair (pairsAt n (a .list .now) from)) count end)
 
 pub key-at-spec : {M : Type 1} → statement M
-key-at-spec =
-    tie.close
-    (tie.spec
-    place-at-requires
-    word-at-requires
-    cast-count
-    cast-t8
-    add-pairs-at
-    pairs-at-requires
-    returns)
+key-at-spec = tie.close (tie.spec (λ c κs. search needs) (λ c κs. search needs) (λ c. search needs)
+    (λ c. omega (arith, bytes-here c, place-here (c .before) .0 .pairs)) add-pairs-at pairs-at-requires returns)

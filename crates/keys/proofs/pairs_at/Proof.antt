@@ -21,65 +21,22 @@ loop-holds : tie.Need-loop-holds Inv-loop μ-loop
 unfolding pairsAt
 loop-holds c = (refl, omega arith)
 
-mul-at : tie.Need-mul-at Inv-loop μ-loop
-mul-at c = search needs
-
-add-at : tie.Need-add-at Inv-loop μ-loop
-add-at c = search needs
-
-word-at-requires : tie.Need-word-at-requires Inv-loop μ-loop
-word-at-requires c κs = search needs
-
-add-word-at : tie.Need-add-word-at Inv-loop μ-loop
-add-word-at c = search needs
-
-word-at-requires-2 : tie.Need-word-at-requires-2 Inv-loop μ-loop
-word-at-requires-2 c κs = search needs
-
-mul-pairs : tie.Need-mul-pairs Inv-loop μ-loop
-mul-pairs c = search needs
-
-array-set-from-pairs : tie.Need-array-set-from-pairs Inv-loop μ-loop
-array-set-from-pairs c = search needs
-
-add-done : tie.Need-add-done Inv-loop μ-loop
-add-done c = search needs
-
-loop-less : tie.Need-loop-less Inv-loop μ-loop
-loop-less c = search needs
-
 loop-again : tie.Need-loop-again Inv-loop μ-loop
 loop-again c =
     let l = c .before .before .before .loop in
-    let a = c .before .before .before .before .before .args in
-    let list = a .list .now in (
-      rw (c .before .word-at .ensures, c .word-at2 .ensures, l .inv .0, pairs-more list (l .done) (a .from))
-          (set-padded mostPairs noPair (pairsAt (l .done) list (a .from)) (l .done) (pairAt list _) (length-pairs list (l .done) (a .from)) (omega arith)),
+    let a = c .before .before .before .before .before .args in (
+      rw (c .before .word-at .ensures, c .word-at2 .ensures, l .inv .0, pairs-more)
+          (set-padded mostPairs noPair (pairsAt (l .done) (a .list .now) (a .from)) (l .done) (pairAt (a .list .now) _)
+          (length-pairs (a .list .now) (l .done) (a .from)) (omega arith)),
       omega arith,
     )
 
 returns : tie.Need-returns Inv-loop μ-loop
 returns c =
-    let l = c .before .loop in
-    let a = c .before .before .before .args in
-    let all : l .done ≡ a .count = omega arith in
-    rw (l .inv .0, all)
+    let all : c .before .loop .done ≡ c .before .before .before .args .count = omega arith in
+    rw (c .before .loop .inv .0, all)
 
 pub pairs-at-spec : {M : Type 1} → statement M
-pairs-at-spec =
-    tie.close
-    (tie.spec
-    Inv-loop
-    μ-loop
-    loop-holds
-    mul-at
-    add-at
-    word-at-requires
-    add-word-at
-    word-at-requires-2
-    mul-pairs
-    array-set-from-pairs
-    add-done
-    loop-less
-    loop-again
-    returns)
+pairs-at-spec = tie.close (tie.spec Inv-loop μ-loop loop-holds (λ c. search needs) (λ c. search needs) (λ c κs. search needs)
+    (λ c. search needs) (λ c κs. search needs) (λ c. search needs) (λ c. search needs) (λ c. search needs) (λ c. search needs)
+    loop-again returns)

@@ -36,6 +36,9 @@ one-on c =
 returns : tie.Need-returns Inv-loop μ-loop
 returns c = rw (one-on (c .before), c .if1 .taken)
 
+loop-again : tie.Need-loop-again Inv-loop μ-loop
+loop-again c = (rw (one-on (c .before), c .if1 .left), omega arith)
+
 returns-2 : tie.Need-returns-2 Inv-loop μ-loop
 returns-2 c =
     let l = c .before .loop in
@@ -44,4 +47,4 @@ returns-2 c =
 pub is-listed-spec : {M : Type 1} → statement M
 is-listed-spec = tie.close (tie.spec Inv-loop μ-loop (λ c. search needs) (λ c. search needs) (λ c. search needs)
     (λ c. search needs) (λ c. search needs) (λ c. search needs) (λ c. search needs) (λ c κs. search needs) returns
-    (λ c. search needs) (λ c. search needs) (λ c. (rw (one-on (c .before), c .if1 .left), omega arith)) returns-2)
+    (λ c. search needs) (λ c. search needs) loop-again returns-2)

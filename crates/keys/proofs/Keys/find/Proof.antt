@@ -2,14 +2,14 @@
 -- Assumes nothing.
 use mathlib.Core.Path.{_≡_, sym}
 use mathlib.Core.Bool.{false}
-use Prim.Native.Nat.{ℕ, _-_, _≤_, _<_}
+use Prim.Native.Nat.{ℕ, _-_, _≤_, _<_, min}
 use native.Mathlib.Omega.{arith}
-use borrow.Author.Count.{below-none, below-more}
+use borrow.Author.Count.{below-more}
 use borrow.Author.Needs.{needs}
 use borrow.Author.Tests.{eq-eqb, ne-eqb}
 use lib.Dec.{eqb}
 use lib.ListN.{getD}
-use Rattle.keys.specs.Keys.{hasId}
+use Rattle.keys.specs.Keys.{hasId, placeOfKey}
 use Rattle.keys.specs.Stored.{keyOf, keysOf}
 use Rattle.keys.proofs.Arrays.{stored-first, stored-first-none}
 use Rattle.keys.proofs.Stored.{unread, full}
@@ -23,71 +23,33 @@ Inv-loop id count list at₀ at =
 abbrev μ-loop : tie.MeasureT-loop
 μ-loop id count list at₀ at = 16 - at
 
-cast-count : tie.Need-cast-count Inv-loop μ-loop
-cast-count c = search needs
-
-loop-holds : tie.Need-loop-holds Inv-loop μ-loop
-loop-holds c =
-    let a = c .before .before .args in
-    (below-none (λ (j : ℕ). eqb (getD (a .self .list) j unread .id .0) (a .id .0) ≡ false), omega arith, omega arith)
+-- none of the keys that count has the id
+none : (c : tie.At-loop Inv-loop μ-loop)
+    → let a = c .before .before .before .args in c .loop .at ≡ min (a .self .count) 16 → c .loop .at ≡ placeOfKey (a .id .0) (keysOf (a .self))
+unfolding keysOf
+none c e =
+    let start = c .before .before .before in
+    sym (stored-first-none keyOf (start .args .self .count) (start .args .self .list) unread (hasId _) (c .loop .at) (c .loop .inv .0)
+    (omega (arith, full (start .args .self) _ (start .good .0))))
 
 returns : tie.Need-returns Inv-loop μ-loop
-unfolding keysOf
-returns c =
-    let start = c .before .before .before .before .before in
-    let a = start .args in
-    let l = c .before .before .loop in
-    sym (stored-first-none keyOf (a .self .count) (a .self .list) unread (hasId (a .id .0)) (l .at) (l .inv .0)
-    (omega (arith, full (a .self) _ (start .good .0))))
-
-mul-if2 : tie.Need-mul-if2 Inv-loop μ-loop
-mul-if2 c = search needs
-
-element-copy-out-if2 : tie.Need-element-copy-out-if2 Inv-loop μ-loop
-element-copy-out-if2 c = search needs
+returns c = none (c .before .before) (omega arith)
 
 returns-2 : tie.Need-returns-2 Inv-loop μ-loop
 unfolding keysOf
 returns-2 c =
     let start = c .before .before .before .before .before .before .before in
-    let a = start .args in
     let l = c .before .before .before .before .loop in
-    sym (stored-first keyOf (a .self .count) (a .self .list) unread (hasId (a .id .0)) (l .at) (l .inv .0)
-    (omega arith) (omega (arith, full (a .self) _ (start .good .0))) (eq-eqb _ _ (c .if2 .taken)))
-
-add-at : tie.Need-add-at Inv-loop μ-loop
-add-at c = search needs
-
-loop-less : tie.Need-loop-less Inv-loop μ-loop
-loop-less c = search needs
+    sym (stored-first keyOf (start .args .self .count) (start .args .self .list) unread (hasId _) (l .at) (l .inv .0)
+    (omega arith) (omega (arith, full (start .args .self) _ (start .good .0))) (eq-eqb _ _ (c .if2 .taken)))
 
 loop-again : tie.Need-loop-again Inv-loop μ-loop
 loop-again c =
-    let l = c .before .before .before .before .loop in
-    (below-more _ _ (l .inv .0) (ne-eqb _ _ (c .if2 .left)), omega arith, omega arith)
+    (below-more _ _ (c .before .before .before .before .loop .inv .0) (ne-eqb _ _ (c .if2 .left)), omega arith, omega arith)
 
 returns-3 : tie.Need-returns-3 Inv-loop μ-loop
-unfolding keysOf
-returns-3 c =
-    let start = c .before .before .before .before in
-    let a = start .args in
-    let l = c .before .loop in
-    sym (stored-first-none keyOf (a .self .count) (a .self .list) unread (hasId (a .id .0)) (l .at) (l .inv .0)
-    (omega (arith, full (a .self) _ (start .good .0))))
+returns-3 c = none (c .before) (omega arith)
 
 pub find-spec : {M : Type 1} → statement M
-find-spec =
-    tie.close
-    (tie.spec
-    Inv-loop
-    μ-loop
-    cast-count
-    loop-holds
-    returns
-    mul-if2
-    element-copy-out-if2
-    returns-2
-    add-at
-    loop-less
-    loop-again
-    returns-3)
+find-spec = tie.close (tie.spec Inv-loop μ-loop (λ c. search needs) (λ c. (λ j h. absurd (omega arith), omega arith, omega arith)) returns
+    (λ c. search needs) (λ c. search needs) returns-2 (λ c. search needs) (λ c. search needs) loop-again returns-3)

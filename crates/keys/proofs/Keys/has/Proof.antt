@@ -15,13 +15,10 @@ returns c =
     let a = c .before .args in
     sym (le-ltb (a .place) (length (keysOf (a .self))) (omega (arith, length-keys (a .self) (full (a .self) _ (c .before .good .0)))))
 
-cast-result : tie.Need-cast-result
-cast-result c = search needs
-
 returns-2 : tie.Need-returns-2
 returns-2 c =
     let start = c .before .before in
     below-most (start .args .self) (full (start .args .self) _ (start .good .0)) (start .args .place) (c .before .if1 .left)
 
 pub has-spec : {M : Type 1} → statement M
-has-spec = tie.close (tie.spec returns cast-result returns-2)
+has-spec = tie.close (tie.spec returns (λ c. search needs) returns-2)

@@ -6,18 +6,11 @@ use Rattle.keys.proofs.Stored.{full, length-keys}
 use Rattle.keys.proofs.Keys.number.Statement.{statement}
 use Rattle.keys.proofs.Keys.number.Tie as tie
 
-cast-count : tie.Need-cast-count
-cast-count c = search needs
-
 returns : tie.Need-returns
-returns c =
-    let start = c .before .before in
-    omega (arith, length-keys (start .args .self) (full (start .args .self) _ (start .good .0)))
+returns c = let start = c .before .before in omega (arith, length-keys (start .args .self) (full (start .args .self) _ (start .good .0)))
 
 returns-2 : tie.Need-returns-2
-returns-2 c =
-    let start = c .before .before in
-    omega (arith, length-keys (start .args .self) (full (start .args .self) _ (start .good .0)))
+returns-2 c = let start = c .before .before in omega (arith, length-keys (start .args .self) (full (start .args .self) _ (start .good .0)))
 
 pub number-spec : {M : Type 1} → statement M
-number-spec = tie.close (tie.spec cast-count returns returns-2)
+number-spec = tie.close (tie.spec (λ c. search needs) returns returns-2)

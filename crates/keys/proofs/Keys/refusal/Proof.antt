@@ -5,7 +5,9 @@ use Prim.Native.Nat.{_<_}
 use native.Mathlib.Omega.{arith}
 use borrow.Author.Needs.{needs}
 use borrow.Author.Tests.{le-leb, lt-leb, ne-eqb, eq-eqb, ltb-true, ltb-false, not-true, not-false}
+use lib.Dec.{leb}
 use lib.ListN.{length, getD}
+use Rattle.wire.specs.Refusals.{_when_otherwise_}
 use Rattle.keys.specs.declared.KeyState.{KeyState}
 use Rattle.keys.specs.Keys.{keyRefusal}
 use Rattle.keys.specs.Stored.{keyOf, keysOf}
@@ -28,90 +30,43 @@ inside c =
     let there : a .place < length (keysOf (a .t1)) = ltb-true _ _ (sym (c .before .has .ensures) ∙ not-false _ (c .if1 .left)) in
     (omega (arith, length-keys (a .t1) whole), refusal-there (a .t1) whole (a .cap) (a .place) (a .request) there)
 
-has-requires : tie.Need-has-requires
-has-requires c κs = search needs
+-- the key has the request's KEM and offers its pair: what is left to decide is whether it is retired or used up
+by-state : (c : tie.Else3)
+    → let there = c .before .before .before .before .before .before in
+    let a = there .before .before .args in
+    keyRefusal (a .cap) (keysOf (a .t1)) (a .place) (a .request)
+    ≡ (7 when keyOf (key there) .retired otherwise 8 when leb (a .cap) (key there .count) otherwise 0)
+by-state c =
+    let same = c .before .before in
+    let there = same .before .before .before .before in
+    rw (inside there .1, eq-eqb (key there .kem) _ (same .if2 .left), ← c .before .offers .ensures, c .if3 .left)
 
 returns : tie.Need-returns
 returns c =
     let start = c .before .before in
-    let a = start .args in
-    sym (refusal-out (a .t1) (full (a .t1) _ (start .good .0)) (a .cap) (a .place) (a .request)
+    sym (refusal-out (start .args .t1) (full (start .args .t1) _ (start .good .0)) _ _ _
     (ltb-false _ _ (sym (c .before .has .ensures) ∙ not-true _ (c .if1 .taken))))
-
-mul-key : tie.Need-mul-key
-mul-key c = omega (arith, inside c .0)
-
-element-copy-out-key : tie.Need-element-copy-out-key
-element-copy-out-key c = inside c .0
 
 returns-2 : tie.Need-returns-2
 returns-2 c =
     let there = c .before .before .before .before in
     rw (inside there .1, ne-eqb (key there .kem) _ (c .if2 .taken))
 
-offers-requires : tie.Need-offers-requires
-offers-requires c κs = search needs
-
 returns-3 : tie.Need-returns-3
 returns-3 c =
     let same = c .before .before in
     let there = same .before .before .before .before in
-    rw (inside there .1, eq-eqb (key there .kem) _ (same .if2 .left), sym (c .before .offers .ensures), c .if3 .taken)
+    rw (inside there .1, eq-eqb (key there .kem) _ (same .if2 .left), ← c .before .offers .ensures, c .if3 .taken)
 
 returns-4 : tie.Need-returns-4
-returns-4 c =
-    let offered = c .before .before in
-    let same = offered .before .before in
-    let there = same .before .before .before .before in
-    rw (
-      inside there .1,
-      eq-eqb (key there .kem) _ (same .if2 .left),
-      sym (offered .before .offers .ensures),
-      offered .if3 .left,
-      ne-eqb (key there .retired) 0 (c .if4 .taken),
-    )
+returns-4 c = rw (by-state (c .before .before), ne-eqb _ 0 (c .if4 .taken))
 
 returns-5 : tie.Need-returns-5
-returns-5 c =
-    let live = c .before .before in
-    let offered = live .before .before in
-    let same = offered .before .before in
-    let there = same .before .before .before .before in
-    rw (
-      inside there .1,
-      eq-eqb (key there .kem) _ (same .if2 .left),
-      sym (offered .before .offers .ensures),
-      offered .if3 .left,
-      eq-eqb (key there .retired) 0 (live .if4 .left),
-      le-leb _ (key there .count) (c .if5 .taken),
-    )
+returns-5 c = rw (by-state (c .before .before .before .before), eq-eqb _ 0 (c .before .before .if4 .left), le-leb _ _ (c .if5 .taken))
 
 returns-6 : tie.Need-returns-6
-returns-6 c =
-    let live = c .before .before in
-    let offered = live .before .before in
-    let same = offered .before .before in
-    let there = same .before .before .before .before in
-    rw (
-      inside there .1,
-      eq-eqb (key there .kem) _ (same .if2 .left),
-      sym (offered .before .offers .ensures),
-      offered .if3 .left,
-      eq-eqb (key there .retired) 0 (live .if4 .left),
-      lt-leb _ (key there .count) (c .if5 .left),
-    )
+returns-6 c = rw (by-state (c .before .before .before .before), eq-eqb _ 0 (c .before .before .if4 .left), lt-leb _ _ (c .if5 .left))
 
 pub refusal-spec : {M : Type 1} → statement M
-refusal-spec =
-    tie.close
-    (tie.spec
-    has-requires
-    returns
-    mul-key
-    element-copy-out-key
-    returns-2
-    offers-requires
-    returns-3
-    returns-4
-    returns-5
-    returns-6)
+refusal-spec = tie.close (tie.spec (λ c κs. search needs) returns (λ c. omega (arith, inside c .0)) (λ c. inside c .0) returns-2
+    (λ c κs. search needs) returns-3 returns-4 returns-5 returns-6)

@@ -12,9 +12,6 @@ use Rattle.keys.proofs.Stored.{unread, full, length-keys, key-at}
 use Rattle.keys.proofs.Keys.retire_refusal.Statement.{statement}
 use Rattle.keys.proofs.Keys.retire_refusal.Tie as tie
 
-has-requires : tie.Need-has-requires
-has-requires c κs = search needs
-
 returns : tie.Need-returns
 unfolding retireRefusal
 returns c =
@@ -33,26 +30,14 @@ inside c =
     let there : a .place < length (keysOf (a .t1)) = ltb-true _ _ (sym (c .before .has .ensures) ∙ not-false _ (c .if1 .left)) in
     (there, omega (arith, length-keys (a .t1) whole), key-at (a .t1) whole (a .place) there)
 
-mul-if2 : tie.Need-mul-if2
-mul-if2 c = omega (arith, inside c .1)
-
-element-copy-out-if2 : tie.Need-element-copy-out-if2
-element-copy-out-if2 c = inside c .1
-
 returns-2 : tie.Need-returns-2
 unfolding retireRefusal
-returns-2 c =
-    let a = c .before .before .before .args in
-    let key = inside (c .before) in
-    rw (lt-leb (length (keysOf (a .t1))) (a .place) (key .0), key .2, ne-eqb (getD (a .t1 .list) (a .place) unread .retired) 0 (c .if2 .taken))
+returns-2 c = let key = inside (c .before) in rw (lt-leb _ _ (key .0), key .2, ne-eqb _ 0 (c .if2 .taken))
 
 returns-3 : tie.Need-returns-3
 unfolding retireRefusal
-returns-3 c =
-    let a = c .before .before .before .args in
-    let key = inside (c .before) in
-    rw (lt-leb (length (keysOf (a .t1))) (a .place) (key .0), key .2, eq-eqb (getD (a .t1 .list) (a .place) unread .retired) 0 (c .if2 .left))
+returns-3 c = let key = inside (c .before) in rw (lt-leb _ _ (key .0), key .2, eq-eqb _ 0 (c .if2 .left))
 
 pub retire-refusal-spec : {M : Type 1} → statement M
-retire-refusal-spec =
-    tie.close (tie.spec has-requires returns mul-if2 element-copy-out-if2 returns-2 returns-3)
+retire-refusal-spec = tie.close (tie.spec (λ c κs. search needs) returns (λ c. omega (arith, inside c .1)) (λ c. inside c .1)
+    returns-2 returns-3)
