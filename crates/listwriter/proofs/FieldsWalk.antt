@@ -9,6 +9,7 @@ use native.Mathlib.Nat.{add-zero, eq-or-lt-of-le}
 use native.Mathlib.Numerals.{add-one}
 use native.Mathlib.Omega.{arith}
 use borrow.Author.Tests.{eq-eqb, ne-eqb, leb-true, leb-false}
+use borrow.Author.Needs.{needs}
 use lib.Dec.{eqb, leb}
 use lib.ListN.{length, getD, take, drop, length-drop, length-take, length-append, drop-of-length-le}
 use lib.Seq.{drop-drop, drop-cons, getD-drop, take-suc, take-add, take-append-seam, length-take-le}
@@ -27,16 +28,19 @@ use Rattle.keylist.proofs.Parsing.{no-refusal}
 use Rattle.listwriter.proofs.OneConfiguration.{first-says, same-fields}
 
 -- whether anything is left from a place on
-pub left-some : (n : ℕ) (xs : List ℕ) → n < length xs → eqb (length (drop n xs)) 0 ≡ false
-left-some n xs h = rw length-drop (ne-eqb (length xs - n) 0 (omega arith))
-
-pub left-none : (n : ℕ) (xs : List ℕ) → length xs ≤ n → eqb (length (drop n xs)) 0 ≡ true
-left-none n xs h = rw length-drop (eq-eqb (length xs - n) 0 (omega arith))
-
-pub left-test : (n : ℕ) (xs : List ℕ) → leb (length xs) n ≡ eqb (length (drop n xs)) 0
+left-test : (n : ℕ) (xs : List ℕ) → eqb (length (drop n xs)) 0 ≡ leb (length xs) n
 left-test n xs =
-    either (leb (length xs) n) (λ e. e ∙ sym (left-none n xs (leb-true (length xs) n e)))
-    (λ e. e ∙ sym (left-some n xs (leb-false (length xs) n e)))
+    either (leb (length xs) n)
+    (λ e. rw (e, eq-eqb (length (drop n xs)) 0 (rw length-drop (omega (arith, leb-true (length xs) n e)))))
+    (λ e. rw (e, ne-eqb (length (drop n xs)) 0 (rw length-drop (omega (arith, leb-false (length xs) n e)))))
+
+-- the same of all fields, as the code tests it
+abbrev pub leftTests : Fields → ℕ → ℕ → ℕ → Bool
+leftTests f i k p =
+    leb (length (f .kems)) i and leb (length (f .keyLengths)) i and leb (length (f .keys)) k and leb (length (f .pairCounts)) i and leb (length (f .pairs)) p
+
+pub left-tests : (f : Fields) (i k p : ℕ) → noneLeft (fieldsFrom f i k p) ≡ leftTests f i k p
+left-tests f i k p = simp left-test
 
 -- the first number from an index on
 number-from : (xs : List ℕ) (i : ℕ) → getD (drop i xs) 0 0 ≡ getD xs i 0
@@ -138,16 +142,7 @@ pub record Within (ids : List ℕ) (f : Fields) (i at k p : ℕ) : Type 0 where
   pub pairs : p ≤ length (f .pairs)
 
 pub within-start : (ids : List ℕ) (f : Fields) → Within ids f 0 0 0 0
-within-start ids f =
-    record {
-      index = omega arith;
-      limit = omega arith;
-      place = omega arith;
-      keyPlace = omega arith;
-      pairPlace = omega arith;
-      keys = omega arith;
-      pairs = omega arith;
-    }
+within-start ids f = search needs
 
 module _ (ids : List ℕ) (f : Fields) (i at k p : ℕ) (w : Within ids f i at k p) (holding : firstHolds (fieldsFrom f i k p) ≡ true) where
   -- the bounds of the configuration at the index
@@ -164,17 +159,7 @@ module _ (ids : List ℕ) (f : Fields) (i at k p : ℕ) (w : Within ids f i at k
   pub within-next : i < length ids → i < mostConfigurations
       → Within ids f (i + 1) (at + 2 + lengthOf (getD (f .keyLengths) i 0) (getD (f .pairCounts) i 0))
       (k + getD (f .keyLengths) i 0) (p + getD (f .pairCounts) i 0)
-  within-next h l =
-      let b = bounds-from in
-      record {
-        index = omega arith;
-        limit = omega arith;
-        place = omega (arith, w .place);
-        keyPlace = omega (arith, w .keyPlace);
-        pairPlace = omega (arith, w .pairPlace);
-        keys = b .1 .1 .0;
-        pairs = b .1 .1 .1;
-      }
+  within-next h l = let b = bounds-from in search needs
 
 -- the encoding from an index on, and the test of the configuration there
 abbrev pub encodeAt : List ℕ → Fields → ℕ → ℕ → ℕ → ℕ → Outcome (List ℕ)

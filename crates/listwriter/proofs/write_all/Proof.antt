@@ -5,7 +5,7 @@ use Rattle.wire.specs.Bytes.{overwritten}
 use lib.ListN.{length-take, length-drop, length, getD}
 use Rattle.listwriter.proofs.Writing.{Writing, writing-start, writing-more, writing-end, writing-bounds, writing-room, writing-limit, buffer-length, as-written}
 use Rattle.listwriter.specs.Writer.{fields}
-use mathlib.Core.Path.{ap, _∙_}
+use mathlib.Core.Path.{ap}
 use Prim.Native.Nat.{ℕ, _+_, _*_, _-_, _≤_, _<_}
 use native.Mathlib.Omega.{arith}
 use borrow.Author.Needs.{needs}
@@ -37,24 +37,12 @@ numbers : (c : tie.After-number-at2 Inv-loop μ-loop)
     Numbers (c .before .number-at .result) (c .number-at2 .result) (l .cursor .at) (l .cursor .index) (l .cursor .«key_at») (l .cursor .«pair_at»)
     (length (a .keys .now)) (length (a .pairs .now)) (length (l .buffer))
 numbers c =
-    let l = c .before .before .before .before .loop in
-    let w = l .inv in
-    let b = writing-bounds w (omega arith) in
-    let r = writing-room w (omega arith) in
+    let w = c .before .before .before .before .loop .inv in
     let limit = writing-limit w (omega arith) in
-    let key = c .before .number-at .ensures in
-    let pairCount = c .number-at2 .ensures in
-    record {
-      few = limit;
-      keyBound = rw key (b .0);
-      pairBound = rw pairCount (b .1 .0);
-      atBound = omega (arith, w .within .place);
-      keyAtBound = omega (arith, w .within .keyPlace);
-      pairAtBound = omega (arith, w .within .pairPlace);
-      keysThere = rw key (b .1 .1 .0);
-      pairsThere = rw pairCount (b .1 .1 .1);
-      roomThere = omega (arith, w .room, buffer-length w);
-    }
+    let bounds = writing-bounds w (omega arith) in
+    let room = writing-room w (omega arith) in
+    let size = buffer-length w in
+    search needs
 
 loop-holds : tie.Need-loop-holds Inv-loop μ-loop
 loop-holds c = let s = c .start .ensures in rw (s .0, s .1, s .2, s .3) (writing-start _ _ _ (c .before .before .before .before .before .before .before .before .pre))
@@ -73,7 +61,7 @@ loop-again c =
     let there = numbers read in
     let same = as-written f _ _ _ (getD (a .ids .now) (l .cursor .index) 0) _ _ _ (kem .kem-at .ensures) key pairCount (there .keysThere) (there .pairsThere) in
     rw (n .0, n .1, n .2, n .3, key, pairCount)
-    (writing-more (l .inv) (omega arith) (written .write-configuration .last .0) (written .write-configuration .ensures ∙ ap (overwritten (l .buffer) (l .cursor .at)) same))
+    (writing-more (l .inv) (omega arith) (written .write-configuration .last .0) (rw (written .write-configuration .ensures) (ap (overwritten (l .buffer) (l .cursor .at)) same)))
 
 pub write-all-spec : {M : Type 1} → statement M
 write-all-spec = tie.close (tie.spec Inv-loop μ-loop (λ c κs. search needs) loop-holds (λ c κs. search needs) (λ c κs. search needs)
