@@ -17,7 +17,8 @@ abbrev outcome : tie.Start → Outcome (List ℕ)
 outcome s = let a = s .args in encode (a .ids .now) (fields (a .kems .now) (a .key-lengths .now) (a .keys .now) (a .pair-counts .now) (a .pairs .now))
 
 -- the length that the first walk answered
-told : (c : tie.After-known-told) → lengthWritten (outcome (c .before .before .before .before .before .before .before .before .before .before .before)) ≡ Written.Length (c .before .length .given .0 .0)
+told : (c : tie.After-known-told)
+    → lengthWritten (outcome (c .before .before .before .before .before .before .before .before .before .before .before)) ≡ Written.Length (c .before .length .given .0 .0)
 told c = rw (← c .before .before .before .list-length .ensures) (c .before .length .given .1)
 
 returns : tie.Need-returns
