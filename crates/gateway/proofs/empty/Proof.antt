@@ -5,11 +5,8 @@ use borrow.Author.Needs.{needs}
 use Rattle.gateway.proofs.empty.Statement.{statement}
 use Rattle.gateway.proofs.empty.Tie as tie
 
-free-requires : tie.Need-free-requires
-free-requires c κs = search needs
-
 returns : tie.Need-returns
 returns c = rw (c .free .ensures)
 
 pub empty-spec : {M : Type 1} → statement M
-empty-spec = tie.close (tie.spec free-requires returns)
+empty-spec = tie.close (tie.spec (λ c κs. search needs) returns)

@@ -6,14 +6,8 @@ use borrow.Author.Needs.{needs}
 use Rattle.gateway.proofs.refused_setup.Statement.{statement}
 use Rattle.gateway.proofs.refused_setup.Tie as tie
 
-none-requires : tie.Need-none-requires
-none-requires c κs = search needs
-
-empty-requires : tie.Need-empty-requires
-empty-requires c κs = search needs
-
 returns : tie.Need-returns
 returns c = (c .empty .ensures ∙ rw (c .before .none .ensures), refl)
 
 pub refused-setup-spec : {M : Type 1} → statement M
-refused-setup-spec = tie.close (tie.spec none-requires empty-requires returns)
+refused-setup-spec = tie.close (tie.spec (λ c κs. search needs) (λ c κs. search needs) returns)

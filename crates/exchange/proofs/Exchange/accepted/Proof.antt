@@ -24,16 +24,5 @@ returns-3 : tie.Need-returns-3
 returns-3 c = rw (c .before .asks .given .1) refl
 
 pub accepted-spec : {M : Type 1} → statement M
-accepted-spec =
-    tie.close
-    (tie.spec
-    (λ c. search needs)
-    (λ c. search needs)
-    (λ c. search needs)
-    add-t8
-    add-t10
-    (λ c. search needs)
-    (λ c. search needs)
-    (λ c. search needs)
-    returns-3
-    (λ c. search needs))
+accepted-spec = tie.close (tie.spec (λ c. search needs) (λ c. search needs) (λ c. search needs) add-t8 add-t10 (λ c. search needs)
+    (λ c. search needs) (λ c. search needs) returns-3 (λ c. search needs))

@@ -10,9 +10,6 @@ use borrow.Author.Needs.{needs}
 use Rattle.exchange.proofs.Exchange.has_opened_length.Statement.{statement}
 use Rattle.exchange.proofs.Exchange.has_opened_length.Tie as tie
 
-cast-length : tie.Need-cast-length
-cast-length c = search needs
-
 returns : tie.Need-returns
 returns c =
     let a = c .before .before .args in
@@ -28,4 +25,4 @@ returns-2 c =
     (λ f. rw (f, ne-eqb (n + 16) size (λ e. eqb-false n (size - 16) f (omega arith))))
 
 pub has-opened-length-spec : {M : Type 1} → statement M
-has-opened-length-spec = tie.close (tie.spec cast-length returns returns-2)
+has-opened-length-spec = tie.close (tie.spec (λ c. search needs) returns returns-2)

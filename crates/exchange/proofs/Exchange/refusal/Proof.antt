@@ -68,15 +68,5 @@ returns-6 c =
     rw (by-room (c .before .before), le-ltb (a .room) (a .enc + a .nonce) (omega arith))
 
 pub refusal-spec : {M : Type 1} → statement M
-refusal-spec =
-    tie.close
-    (tie.spec
-    (λ c κs. search needs)
-    returns
-    (λ c κs. search needs)
-    returns-2
-    (λ c κs. search needs)
-    returns-3
-    returns-4
-    returns-5
-    returns-6)
+refusal-spec = tie.close (tie.spec (λ c κs. search needs) returns (λ c κs. search needs) returns-2 (λ c κs. search needs) returns-3
+    returns-4 returns-5 returns-6)

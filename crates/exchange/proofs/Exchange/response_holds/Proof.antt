@@ -29,12 +29,6 @@ nonce-known c =
     known (knownAead aead) (responseNonceLength aead) (c .nonce-length .given .0 .0)
     (sym (c .before .before .response-nonce-length .ensures) ∙ c .nonce-length .given .1)
 
-enc-length-requires : tie.Need-enc-length-requires
-enc-length-requires c κs = search needs
-
-enum-known-enc-length : tie.Need-enum-known-enc-length
-enum-known-enc-length c = search needs
-
 enum-told : tie.Need-enum-told
 enum-told c = search needs
 
@@ -42,15 +36,6 @@ returns : tie.Need-returns
 returns c =
     let kem = c .before .before .before .args .self .kem in
     rw (unknown (knownKem kem) (encLength kem) (sym (c .before .before .enc-length .ensures) ∙ c .enum-told .given .1))
-
-response-nonce-length-requires : tie.Need-response-nonce-length-requires
-response-nonce-length-requires c κs = search needs
-
-enum-known-nonce-length : tie.Need-enum-known-nonce-length
-enum-known-nonce-length c = search needs
-
-enum-told-2 : tie.Need-enum-told-2
-enum-told-2 c = search needs
 
 returns-2 : tie.Need-returns-2
 returns-2 c =
@@ -84,17 +69,5 @@ returns-5 c =
     rw (e .0, e .1, eq-eqb _ _ (c .before .if1 .left), n .0, n .1, eq-eqb _ _ (c .if2 .left))
 
 pub response-holds-spec : {M : Type 1} → statement M
-response-holds-spec =
-    tie.close
-    (tie.spec
-    enc-length-requires
-    enum-known-enc-length
-    enum-told
-    returns
-    response-nonce-length-requires
-    enum-known-nonce-length
-    enum-told-2
-    returns-2
-    returns-3
-    returns-4
-    returns-5)
+response-holds-spec = tie.close (tie.spec (λ c κs. search needs) (λ c. search needs) enum-told returns (λ c κs. search needs)
+    (λ c. search needs) (λ c. search needs) returns-2 returns-3 returns-4 returns-5)

@@ -40,62 +40,17 @@ decided c =
 inside : (c : tie.Else1) → decided (c .before) .keyPlace < 16
 inside c = key-below (decided (c .before)) (c .if1 .left)
 
-read-requires : tie.Need-read-requires
-read-requires c κs = search needs
-
-find-requires : tie.Need-find-requires
-find-requires c κs = search needs
-
-free-place-requires : tie.Need-free-place-requires
-free-place-requires c κs = search needs
-
-refusal-requires : tie.Need-refusal-requires
-refusal-requires c κs = search needs
-
-refusal-requires-2 : tie.Need-refusal-requires-2
-refusal-requires-2 c κs = search needs
-
-nothing-requires : tie.Need-nothing-requires
-nothing-requires c κs = search needs
-
-of-requires : tie.Need-of-requires
-of-requires c κs = search needs
-
 returns : tie.Need-returns
 returns c =
     let refused = c .before .before in
     let nothing = c .before .nothing .ensures in
     (nothing .0, not-admitted (decided (refused .before)) _ (nothing .1) _ (c .of .ensures) (refused .if1 .taken))
 
-info-requires : tie.Need-info-requires
-info-requires c κs = search needs
-
-slice-aggregate-overwrite : tie.Need-slice-aggregate-overwrite
-slice-aggregate-overwrite c = search needs
-
-overwrite-requires : tie.Need-overwrite-requires
-overwrite-requires c κs = search needs
-
-next-ticket-requires : tie.Need-next-ticket-requires
-next-ticket-requires c κs = search needs
-
 mul-key : tie.Need-mul-key
 mul-key c = record { fits = omega (arith, inside (c .before .before .before .before .before .before .before .before)) }
 
 element-copy-out-key : tie.Need-element-copy-out-key
 element-copy-out-key c = inside (c .before .before .before .before .before .before .before .before)
-
-used-requires : tie.Need-used-requires
-used-requires c κs = search needs
-
-asked-requires : tie.Need-asked-requires
-asked-requires c κs = search needs
-
-of-requires-2 : tie.Need-of-requires-2
-of-requires-2 c κs = search needs
-
-same-length : tie.Need-same-length
-same-length c = search needs
 
 returns-2 : tie.Need-returns-2
 returns-2 c =
@@ -114,25 +69,7 @@ returns-2 c =
     )
 
 pub admit-spec : {M : Type 1} → statement M
-admit-spec =
-    tie.close
-    (tie.spec
-    read-requires
-    find-requires
-    free-place-requires
-    refusal-requires
-    refusal-requires-2
-    nothing-requires
-    of-requires
-    returns
-    info-requires
-    slice-aggregate-overwrite
-    overwrite-requires
-    next-ticket-requires
-    mul-key
-    element-copy-out-key
-    used-requires
-    asked-requires
-    of-requires-2
-    same-length
-    returns-2)
+admit-spec = tie.close (tie.spec (λ c κs. search needs) (λ c κs. search needs) (λ c κs. search needs) (λ c κs. search needs)
+    (λ c κs. search needs) (λ c κs. search needs) (λ c κs. search needs) returns (λ c κs. search needs) (λ c. search needs)
+    (λ c κs. search needs) (λ c κs. search needs) mul-key element-copy-out-key (λ c κs. search needs) (λ c κs. search needs)
+    (λ c κs. search needs) (λ c. search needs) returns-2)

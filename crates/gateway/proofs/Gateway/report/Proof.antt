@@ -6,18 +6,9 @@ use Rattle.gateway.specs.Calls.{gatewayDoes}
 use Rattle.gateway.proofs.Gateway.report.Statement.{statement}
 use Rattle.gateway.proofs.Gateway.report.Tie as tie
 
-report-requires : tie.Need-report-requires
-report-requires c κs = search needs
-
-count-pending-requires : tie.Need-count-pending-requires
-count-pending-requires c κs = search needs
-
-number-requires : tie.Need-number-requires
-number-requires c κs = search needs
-
 returns : tie.Need-returns
 unfolding gatewayDoes
 returns c = rw (c .before .before .report .ensures, c .before .count-pending .ensures, c .number .ensures)
 
 pub report-spec : {M : Type 1} → statement M
-report-spec = tie.close (tie.spec report-requires count-pending-requires number-requires returns)
+report-spec = tie.close (tie.spec (λ c κs. search needs) (λ c κs. search needs) (λ c κs. search needs) returns)

@@ -10,18 +10,6 @@ use Rattle.gateway.proofs.Results.{not-retired, is-retired}
 use Rattle.gateway.proofs.Gateway.retire.Statement.{statement}
 use Rattle.gateway.proofs.Gateway.retire.Tie as tie
 
-find-requires : tie.Need-find-requires
-find-requires c κs = search needs
-
-retire-refusal-requires : tie.Need-retire-refusal-requires
-retire-refusal-requires c κs = search needs
-
-nothing-requires : tie.Need-nothing-requires
-nothing-requires c κs = search needs
-
-of-requires : tie.Need-of-requires
-of-requires c κs = search needs
-
 returns : tie.Need-returns
 returns c =
     let number = c .before .before .before in
@@ -47,12 +35,6 @@ mul-key c = record { fits = omega (arith, inside c) }
 element-copy-out-key : tie.Need-element-copy-out-key
 element-copy-out-key c = inside c
 
-nothing-requires-2 : tie.Need-nothing-requires-2
-nothing-requires-2 c κs = search needs
-
-retired-requires : tie.Need-retired-requires
-retired-requires c κs = search needs
-
 returns-2 : tie.Need-returns-2
 returns-2 c =
     let accepted = c .before .before .before in
@@ -67,16 +49,5 @@ returns-2 c =
     )
 
 pub retire-spec : {M : Type 1} → statement M
-retire-spec =
-    tie.close
-    (tie.spec
-    find-requires
-    retire-refusal-requires
-    nothing-requires
-    of-requires
-    returns
-    mul-key
-    element-copy-out-key
-    nothing-requires-2
-    retired-requires
-    returns-2)
+retire-spec = tie.close (tie.spec (λ c κs. search needs) (λ c κs. search needs) (λ c κs. search needs) (λ c κs. search needs) returns
+    mul-key element-copy-out-key (λ c κs. search needs) (λ c κs. search needs) returns-2)

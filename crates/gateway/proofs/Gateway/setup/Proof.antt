@@ -14,18 +14,6 @@ use Rattle.gateway.proofs.Fresh.{cap-refused, ready, list-refused}
 use Rattle.gateway.proofs.Gateway.setup.Statement.{statement}
 use Rattle.gateway.proofs.Gateway.setup.Tie as tie
 
-read-requires : tie.Need-read-requires
-read-requires c κs = search needs
-
-enum-known-checked : tie.Need-enum-known-checked
-enum-known-checked c = search needs
-
-of-requires : tie.Need-of-requires
-of-requires c κs = search needs
-
-refused-setup-requires : tie.Need-refused-setup-requires
-refused-setup-requires c κs = search needs
-
 returns : tie.Need-returns
 returns c =
     let a = c .before .before .before .before .before .before .before .before .args in
@@ -33,30 +21,12 @@ returns c =
     let given = cap-refused (parse (a .list .now)) (a .cap) _ was (rw (lt-leb 1 (a .cap) (c .before .before .if1 .taken))) in
     (c .refused-setup .ensures .0 ∙ given .0, c .refused-setup .ensures .1 ∙ ap SetupAnswer.Refused (c .before .of .ensures) ∙ given .1)
 
-of-requires-2 : tie.Need-of-requires-2
-of-requires-2 c κs = search needs
-
-refused-setup-requires-2 : tie.Need-refused-setup-requires-2
-refused-setup-requires-2 c κs = search needs
-
 returns-2 : tie.Need-returns-2
 returns-2 c =
     let a = c .before .before .before .before .before .before .before .before .before .args in
     let was = sym (ap (λ (r : KeysRead). r .checked) (c .before .before .before .before .before .before .before .read .ensures)) ∙ c .before .before .before .before .before .checked .given .1 in
     let given = cap-refused (parse (a .list .now)) (a .cap) _ was (rw (le-leb 1 (a .cap) (c .before .before .before .if1 .left), lt-leb (a .cap) mostUses (c .before .before .if2 .taken))) in
     (c .refused-setup2 .ensures .0 ∙ given .0, c .refused-setup2 .ensures .1 ∙ ap SetupAnswer.Refused (c .before .of2 .ensures) ∙ given .1)
-
-cast-empty : tie.Need-cast-empty
-cast-empty c = search needs
-
-empty-requires : tie.Need-empty-requires
-empty-requires c κs = search needs
-
-enum-known-checked-2 : tie.Need-enum-known-checked-2
-enum-known-checked-2 c = search needs
-
-refused-setup-requires-3 : tie.Need-refused-setup-requires-3
-refused-setup-requires-3 c κs = search needs
 
 returns-3 : tie.Need-returns-3
 returns-3 c =
@@ -74,20 +44,6 @@ returns-4 c =
     (c .refused-setup3 .ensures .0 ∙ given .0, c .refused-setup3 .ensures .1 ∙ given .1)
 
 pub setup-spec : {M : Type 1} → statement M
-setup-spec =
-    tie.close
-    (tie.spec
-    read-requires
-    enum-known-checked
-    of-requires
-    refused-setup-requires
-    returns
-    of-requires-2
-    refused-setup-requires-2
-    returns-2
-    cast-empty
-    empty-requires
-    enum-known-checked-2
-    refused-setup-requires-3
-    returns-3
-    returns-4)
+setup-spec = tie.close (tie.spec (λ c κs. search needs) (λ c. search needs) (λ c κs. search needs) (λ c κs. search needs) returns
+    (λ c κs. search needs) (λ c κs. search needs) returns-2 (λ c. search needs) (λ c κs. search needs) (λ c. search needs)
+    (λ c κs. search needs) returns-3 returns-4)

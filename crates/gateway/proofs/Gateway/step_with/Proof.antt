@@ -20,11 +20,4 @@ returns c =
     (done .0, (done .1 .0, (done .1 .1, moved .1 .1 ∙ ap (buffer call) (find .find .ensures .1))))
 
 pub step-with-spec : {M : Type 1} → statement M
-step-with-spec =
-    tie.close
-    (tie.spec
-    (λ c κs. search needs)
-    (λ c κs. search needs)
-    (λ c κs. search needs)
-    (λ c. search needs)
-    returns)
+step-with-spec = tie.close (tie.spec (λ c κs. search needs) (λ c κs. search needs) (λ c κs. search needs) (λ c. search needs) returns)

@@ -7,9 +7,6 @@ use borrow.Author.Needs.{needs}
 use Rattle.gateway.proofs.admission.next_ticket.Statement.{statement}
 use Rattle.gateway.proofs.admission.next_ticket.Tie as tie
 
-add-t4 : tie.Need-add-t4
-add-t4 c = search needs
-
 returns : tie.Need-returns
 returns c = ap (λ (n : ℕ). record { 0 = n }) (omega arith)
 
@@ -17,4 +14,4 @@ returns-2 : tie.Need-returns-2
 returns-2 c = ap (λ (n : ℕ). record { 0 = n }) (omega arith)
 
 pub next-ticket-spec : {M : Type 1} → statement M
-next-ticket-spec = tie.close (tie.spec add-t4 returns returns-2)
+next-ticket-spec = tie.close (tie.spec (λ c. search needs) returns returns-2)

@@ -10,9 +10,6 @@ use Rattle.gateway.proofs.Lengths.{full-table}
 use Rattle.gateway.proofs.change.exchange_at.Statement.{statement}
 use Rattle.gateway.proofs.change.exchange_at.Tie as tie
 
-nothing-requires : tie.Need-nothing-requires
-nothing-requires c κs = search needs
-
 returns : tie.Need-returns
 returns c =
     let a = c .before .before .args in
@@ -29,4 +26,4 @@ returns-2 c =
     (nothing .0, nothing .1 ∙ rw (set-out (a .gateway .table) (a .place) (a .exchange) (omega (arith, full-table (a .gateway) _ (start .good .0)))))
 
 pub exchange-at-spec : {M : Type 1} → statement M
-exchange-at-spec = tie.close (tie.spec nothing-requires returns returns-2)
+exchange-at-spec = tie.close (tie.spec (λ c κs. search needs) returns returns-2)

@@ -8,16 +8,10 @@ use Rattle.keys.proofs.Stored.{unread}
 use Rattle.gateway.proofs.change.nothing.Statement.{statement}
 use Rattle.gateway.proofs.change.nothing.Tie as tie
 
-element-copy-out-t7 : tie.Need-element-copy-out-t7
-element-copy-out-t7 c = search needs
-
-array-copy-out-t10 : tie.Need-array-copy-out-t10
-array-copy-out-t10 c = search needs
-
 returns : tie.Need-returns
 returns c =
     let g = c .before .before .before .before .before .args .gateway in
     ((omega arith, omega arith), rw (set-getD (g .keys .list) 0 unread, set-getD (g .table) 0 free))
 
 pub nothing-spec : {M : Type 1} → statement M
-nothing-spec = tie.close (tie.spec element-copy-out-t7 array-copy-out-t10 returns)
+nothing-spec = tie.close (tie.spec (λ c. search needs) (λ c. search needs) returns)

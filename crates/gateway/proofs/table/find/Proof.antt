@@ -20,9 +20,6 @@ Inv-loop ticket table at₀ at =
 abbrev μ-loop : tie.MeasureT-loop
 μ-loop ticket table at₀ at = tableSize - at
 
-nothing-found-requires : tie.Need-nothing-found-requires Inv-loop μ-loop
-nothing-found-requires c κs = search needs
-
 returns : tie.Need-returns Inv-loop μ-loop
 returns c =
     let zero = c .before in
@@ -34,18 +31,6 @@ returns c =
 loop-holds : tie.Need-loop-holds Inv-loop μ-loop
 loop-holds c = (omega arith, (c .if1 .left, below-none (λ (j : ℕ). hasTicket (c .before .before .args .ticket .0) (getD (c .before .before .args .t1) j free) ≡ false)))
 
-mul-if2 : tie.Need-mul-if2 Inv-loop μ-loop
-mul-if2 c = search needs
-
-element-copy-out-if2 : tie.Need-element-copy-out-if2 Inv-loop μ-loop
-element-copy-out-if2 c = search needs
-
-mul-t11 : tie.Need-mul-t11 Inv-loop μ-loop
-mul-t11 c = search needs
-
-array-copy-out-t14 : tie.Need-array-copy-out-t14 Inv-loop μ-loop
-array-copy-out-t14 c = search needs
-
 returns-2 : tie.Need-returns-2 Inv-loop μ-loop
 returns-2 c =
     let same = c .before in
@@ -56,20 +41,11 @@ returns-2 c =
     found-at (a .ticket .0) (a .t1) (l .at) (omega (arith, size)) (l .inv .1 .1)
     (own-ticket (a .ticket .0) (getD (a .t1) (l .at) free) (l .inv .1 .0) (same .if2 .taken))
 
-add-at : tie.Need-add-at Inv-loop μ-loop
-add-at c = search needs
-
-loop-less : tie.Need-loop-less Inv-loop μ-loop
-loop-less c = search needs
-
 loop-again : tie.Need-loop-again Inv-loop μ-loop
 loop-again c =
     let l = c .before .before .before .loop in
     let a = c .before .before .before .before .before .before .args in
     (omega arith, (l .inv .1 .0, below-more _ _ (l .inv .1 .1) (other-ticket (a .ticket .0) (getD (a .t1) (l .at) free) (c .if2 .left))))
-
-nothing-found-requires-2 : tie.Need-nothing-found-requires-2 Inv-loop μ-loop
-nothing-found-requires-2 c κs = search needs
 
 returns-3 : tie.Need-returns-3 Inv-loop μ-loop
 returns-3 c =
@@ -80,21 +56,5 @@ returns-3 c =
     rw (c .nothing-found2 .ensures) (found-none (a .ticket .0) (a .t1) size (λ j h. l .inv .1 .1 j (omega arith)))
 
 pub find-spec : {M : Type 1} → statement M
-find-spec =
-    tie.close
-    (tie.spec
-    Inv-loop
-    μ-loop
-    nothing-found-requires
-    returns
-    loop-holds
-    mul-if2
-    element-copy-out-if2
-    mul-t11
-    array-copy-out-t14
-    returns-2
-    add-at
-    loop-less
-    loop-again
-    nothing-found-requires-2
-    returns-3)
+find-spec = tie.close (tie.spec Inv-loop μ-loop (λ c κs. search needs) returns loop-holds (λ c. search needs) (λ c. search needs)
+    (λ c. search needs) (λ c. search needs) returns-2 (λ c. search needs) (λ c. search needs) loop-again (λ c κs. search needs) returns-3)

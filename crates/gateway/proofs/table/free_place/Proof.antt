@@ -22,15 +22,6 @@ abbrev μ-loop : tie.MeasureT-loop
 loop-holds : tie.Need-loop-holds Inv-loop μ-loop
 loop-holds c = (omega arith, below-none (λ (j : ℕ). isFree (getD (c .args .t1) j free) ≡ false))
 
-mul-exchange : tie.Need-mul-exchange Inv-loop μ-loop
-mul-exchange c = search needs
-
-array-copy-out-exchange : tie.Need-array-copy-out-exchange Inv-loop μ-loop
-array-copy-out-exchange c = search needs
-
-is-free-requires : tie.Need-is-free-requires Inv-loop μ-loop
-is-free-requires c κs = search needs
-
 returns : tie.Need-returns Inv-loop μ-loop
 unfolding freePlace
 returns c =
@@ -38,12 +29,6 @@ returns c =
     let table = c .before .before .before .before .before .args .t1 in
     let size : length table ≡ tableSize = search needs in
     (sym (first-at free isFree table (l .at) (omega (arith, size)) (l .inv .1) (sym (c .before .is-free .ensures) ∙ c .if1 .taken)), size)
-
-add-at : tie.Need-add-at Inv-loop μ-loop
-add-at c = search needs
-
-loop-less : tie.Need-loop-less Inv-loop μ-loop
-loop-less c = search needs
 
 loop-again : tie.Need-loop-again Inv-loop μ-loop
 loop-again c =
@@ -61,17 +46,5 @@ returns-2 c =
     (end ∙ sym (first-none free isFree table (λ j h. l .inv .1 j (rw (← end) at h))), size)
 
 pub free-place-spec : {M : Type 1} → statement M
-free-place-spec =
-    tie.close
-    (tie.spec
-    Inv-loop
-    μ-loop
-    loop-holds
-    mul-exchange
-    array-copy-out-exchange
-    is-free-requires
-    returns
-    add-at
-    loop-less
-    loop-again
-    returns-2)
+free-place-spec = tie.close (tie.spec Inv-loop μ-loop loop-holds (λ c. search needs) (λ c. search needs) (λ c κs. search needs) returns
+    (λ c. search needs) (λ c. search needs) loop-again returns-2)

@@ -4,11 +4,8 @@ use borrow.Author.Needs.{needs}
 use Rattle.gateway.proofs.table.nothing_found.Statement.{statement}
 use Rattle.gateway.proofs.table.nothing_found.Tie as tie
 
-free-requires : tie.Need-free-requires
-free-requires c κs = search needs
-
 returns : tie.Need-returns
 returns c = rw (c .free .ensures)
 
 pub nothing-found-spec : {M : Type 1} → statement M
-nothing-found-spec = tie.close (tie.spec free-requires returns)
+nothing-found-spec = tie.close (tie.spec (λ c κs. search needs) returns)

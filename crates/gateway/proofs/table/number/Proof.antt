@@ -8,9 +8,6 @@ use Rattle.gateway.specs.Gateway.{pendingIn}
 use Rattle.gateway.proofs.table.number.Statement.{statement}
 use Rattle.gateway.proofs.table.number.Tie as tie
 
-is-free-requires : tie.Need-is-free-requires
-is-free-requires c κs = search needs
-
 returns : tie.Need-returns
 unfolding pendingIn
 returns c = rw (← c .before .is-free .ensures, c .if1 .taken) (refl, omega arith)
@@ -20,4 +17,4 @@ unfolding pendingIn
 returns-2 c = rw (← c .before .is-free .ensures, c .if1 .left) (refl, omega arith)
 
 pub number-spec : {M : Type 1} → statement M
-number-spec = tie.close (tie.spec is-free-requires returns returns-2)
+number-spec = tie.close (tie.spec (λ c κs. search needs) returns returns-2)

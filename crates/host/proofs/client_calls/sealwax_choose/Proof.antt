@@ -10,8 +10,4 @@ returns : tie.Need-returns
 returns c = c .choose-result .ensures ∙ ap chooseResult (c .before .choose .ensures)
 
 pub sealwax-choose-spec : {M : Type 1} → statement M
-sealwax-choose-spec = tie.close
-    (tie.spec
-    (λ c κs. search needs)
-    (λ c κs. search needs)
-    returns)
+sealwax-choose-spec = tie.close (tie.spec (λ c κs. search needs) (λ c κs. search needs) returns)

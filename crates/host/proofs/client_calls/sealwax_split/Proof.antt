@@ -10,8 +10,4 @@ returns : tie.Need-returns
 returns c = c .split-result .ensures ∙ ap (splitResult _) (c .before .check .ensures)
 
 pub sealwax-split-spec : {M : Type 1} → statement M
-sealwax-split-spec = tie.close
-    (tie.spec
-    (λ c κs. search needs)
-    (λ c κs. search needs)
-    returns)
+sealwax-split-spec = tie.close (tie.spec (λ c κs. search needs) (λ c κs. search needs) returns)

@@ -10,8 +10,4 @@ returns : tie.Need-returns
 returns c = c .check-result .ensures ∙ ap checkResult (c .before .check .ensures)
 
 pub sealwax-check-spec : {M : Type 1} → statement M
-sealwax-check-spec = tie.close
-    (tie.spec
-    (λ c κs. search needs)
-    (λ c κs. search needs)
-    returns)
+sealwax-check-spec = tie.close (tie.spec (λ c κs. search needs) (λ c κs. search needs) returns)

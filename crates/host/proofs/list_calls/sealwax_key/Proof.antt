@@ -10,8 +10,4 @@ returns : tie.Need-returns
 returns c = c .key-result .ensures ∙ ap keyResult (c .before .find .ensures)
 
 pub sealwax-key-spec : {M : Type 1} → statement M
-sealwax-key-spec = tie.close
-    (tie.spec
-    (λ c κs. search needs)
-    (λ c κs. search needs)
-    returns)
+sealwax-key-spec = tie.close (tie.spec (λ c κs. search needs) (λ c κs. search needs) returns)

@@ -10,9 +10,4 @@ returns : tie.Need-returns
 returns c = let done = c .before .before .before .write .ensures in (c .write-result .ensures ∙ ap writeResult (done .0), done .1)
 
 pub sealwax-write-spec : {M : Type 1} → statement M
-sealwax-write-spec = tie.close
-    (tie.spec
-    (λ c κs. search needs)
-    (λ c κs. search needs)
-    (λ c. search needs)
-    returns)
+sealwax-write-spec = tie.close (tie.spec (λ c κs. search needs) (λ c κs. search needs) (λ c. search needs) returns)

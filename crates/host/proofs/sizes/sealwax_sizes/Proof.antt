@@ -10,6 +10,4 @@ unfolding sizes
 returns c = refl
 
 pub sealwax-sizes-spec : {M : Type 1} → statement M
-sealwax-sizes-spec = tie.close
-    (tie.spec
-    returns)
+sealwax-sizes-spec = tie.close (tie.spec returns)

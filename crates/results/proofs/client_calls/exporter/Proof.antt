@@ -46,17 +46,5 @@ returns-2 c =
     (c .of2 .ensures ∙ rw (c .before .secret-length .ensures), c .before .before .before .before .overwrite .ensures ∙ front ∙ front-first exporterContext (a .context .now) (accepted passed .1))
 
 pub exporter-spec : {M : Type 1} → statement M
-exporter-spec =
-    tie.close
-    (tie.spec
-    (λ c κs. search needs)
-    (λ c κs. search needs)
-    (λ c κs. search needs)
-    returns
-    (λ c κs. search needs)
-    (λ c. search needs)
-    (λ c κs. search needs)
-    secret-length-requires
-    (λ c κs. search needs)
-    (λ c. search needs)
-    returns-2)
+exporter-spec = tie.close (tie.spec (λ c κs. search needs) (λ c κs. search needs) (λ c κs. search needs) returns (λ c κs. search needs)
+    (λ c. search needs) (λ c κs. search needs) secret-length-requires (λ c κs. search needs) (λ c. search needs) returns-2)

@@ -20,9 +20,4 @@ unfolding exporterRefusal exporterContext ascii
 returns-3 c = rw (← c .before .before .is-known .ensures, not-false (c .before .before .is-known .result) (c .before .if1 .left), le-ltb _ 22 (c .if2 .left))
 
 pub exporter-refusal-spec : {M : Type 1} → statement M
-exporter-refusal-spec = tie.close
-    (tie.spec
-    (λ c κs. search needs)
-    returns
-    returns-2
-    returns-3)
+exporter-refusal-spec = tie.close (tie.spec (λ c κs. search needs) returns returns-2 returns-3)

@@ -21,11 +21,4 @@ returns-2 c =
     absurd (true-or-false (looked .before .pre) (unknown (knownAead aead) (secretLength aead) (sym (looked .secret-length .ensures) ∙ c .enum-told .given .1)))
 
 pub secret-length-spec : {M : Type 1} → statement M
-secret-length-spec =
-    tie.close
-    (tie.spec
-    (λ c κs. search needs)
-    (λ c. search needs)
-    (λ c. search needs)
-    returns
-    returns-2)
+secret-length-spec = tie.close (tie.spec (λ c κs. search needs) (λ c. search needs) (λ c. search needs) returns returns-2)

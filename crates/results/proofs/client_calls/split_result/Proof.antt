@@ -11,13 +11,5 @@ returns-2 : tie.Need-returns-2
 returns-2 c = cc
 
 pub split-result-spec : {M : Type 1} → statement M
-split-result-spec =
-    tie.close
-    (tie.spec
-    (λ c. search needs)
-    (λ c κs. search needs)
-    (λ c κs. search needs)
-    (λ c. search needs)
-    (λ c κs. search needs)
-    returns
-    returns-2)
+split-result-spec = tie.close (tie.spec (λ c. search needs) (λ c κs. search needs) (λ c κs. search needs) (λ c. search needs)
+    (λ c κs. search needs) returns returns-2)

@@ -12,8 +12,4 @@ returns : tie.Need-returns
 returns c = bare-changes outcomeOf _ _ Move.Abandon _ (c .before .before .step .ensures) (c .step-outcome .ensures)
 
 pub abandon-spec : {M : Type 1} → statement M
-abandon-spec = tie.close
-    (tie.spec
-    (λ c κs. search needs)
-    (λ c κs. search needs)
-    returns)
+abandon-spec = tie.close (tie.spec (λ c κs. search needs) (λ c κs. search needs) returns)

@@ -12,9 +12,4 @@ returns c =
     (done .0, (done .1 .0, c .admit-result .ensures ∙ ap admitResult (done .1 .1 .0), done .1 .1 .1))
 
 pub admit-spec : {M : Type 1} → statement M
-admit-spec = tie.close
-    (tie.spec
-    (λ c κs. search needs)
-    (λ c κs. search needs)
-    (λ c. search needs)
-    returns)
+admit-spec = tie.close (tie.spec (λ c κs. search needs) (λ c κs. search needs) (λ c. search needs) returns)

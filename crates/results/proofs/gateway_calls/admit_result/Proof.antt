@@ -11,12 +11,5 @@ returns-2 : tie.Need-returns-2
 returns-2 c = rw (c .problem .ensures, c .before .before .answer2 .given .1)
 
 pub admit-result-spec : {M : Type 1} → statement M
-admit-result-spec =
-    tie.close
-    (tie.spec
-    (λ c. search needs)
-    (λ c κs. search needs)
-    (λ c. search needs)
-    (λ c κs. search needs)
-    returns
+admit-result-spec = tie.close (tie.spec (λ c. search needs) (λ c κs. search needs) (λ c. search needs) (λ c κs. search needs) returns
     returns-2)

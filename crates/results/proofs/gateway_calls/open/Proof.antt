@@ -12,9 +12,4 @@ returns c =
     (bare-changes stepResult _ _ _ _ (c .before .before .step .ensures) (c .step-result .ensures))
 
 pub open-spec : {M : Type 1} → statement M
-open-spec = tie.close
-    (tie.spec
-    (λ c κs. search needs)
-    (λ c κs. search needs)
-    (λ c κs. search needs)
-    returns)
+open-spec = tie.close (tie.spec (λ c κs. search needs) (λ c κs. search needs) (λ c κs. search needs) returns)

@@ -8,8 +8,4 @@ returns : tie.Need-returns
 returns c = rw (c .sends .ensures, ← c .before .before .report .ensures)
 
 pub report-spec : {M : Type 1} → statement M
-report-spec = tie.close
-    (tie.spec
-    (λ c κs. search needs)
-    (λ c κs. search needs)
-    returns)
+report-spec = tie.close (tie.spec (λ c κs. search needs) (λ c κs. search needs) returns)

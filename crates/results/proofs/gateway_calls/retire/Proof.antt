@@ -14,8 +14,4 @@ returns c =
     (done .0, (done .1 .0, c .retire-result .ensures ∙ ap outcomeOf (done .1 .1), refl))
 
 pub retire-spec : {M : Type 1} → statement M
-retire-spec = tie.close
-    (tie.spec
-    (λ c κs. search needs)
-    (λ c κs. search needs)
-    returns)
+retire-spec = tie.close (tie.spec (λ c κs. search needs) (λ c κs. search needs) returns)

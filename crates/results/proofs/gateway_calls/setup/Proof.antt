@@ -10,8 +10,4 @@ returns : tie.Need-returns
 returns c = (c .before .before .setup .ensures .0, c .setup-result .ensures ∙ ap setupResult (c .before .before .setup .ensures .1))
 
 pub setup-spec : {M : Type 1} → statement M
-setup-spec = tie.close
-    (tie.spec
-    (λ c κs. search needs)
-    (λ c κs. search needs)
-    returns)
+setup-spec = tie.close (tie.spec (λ c κs. search needs) (λ c κs. search needs) returns)

@@ -12,9 +12,4 @@ returns c =
     (done .0, (done .1 .0, c .step-result .ensures ∙ ap stepResult (done .1 .1 .0), done .1 .1 .1))
 
 pub step-spec : {M : Type 1} → statement M
-step-spec = tie.close
-    (tie.spec
-    (λ c κs. search needs)
-    (λ c κs. search needs)
-    (λ c. search needs)
-    returns)
+step-spec = tie.close (tie.spec (λ c κs. search needs) (λ c κs. search needs) (λ c. search needs) returns)

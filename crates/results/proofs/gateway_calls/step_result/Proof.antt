@@ -8,8 +8,4 @@ returns : tie.Need-returns
 returns c = cc
 
 pub step-result-spec : {M : Type 1} → statement M
-step-result-spec = tie.close
-    (tie.spec
-    (λ c κs. search needs)
-    (λ c κs. search needs)
-    returns)
+step-result-spec = tie.close (tie.spec (λ c κs. search needs) (λ c κs. search needs) returns)

@@ -8,7 +8,4 @@ returns : tie.Need-returns
 returns c = cc
 
 pub of-spec : {M : Type 1} → statement M
-of-spec = tie.close
-    (tie.spec
-    (λ c κs. search needs)
-    returns)
+of-spec = tie.close (tie.spec (λ c κs. search needs) returns)
