@@ -16,7 +16,7 @@ use contract.Monad.{Fun}
 use types.Kit.{Given, ‵, _⊛_, ⋆, _$_, _∵_, !, qed, frame, done}
 use denote.RattleType.{owns}
 use denote.Ref.{RefT, MutRef}
-use denote.Struct.Laws as LL
+use denote.Struct.Laws as structs
 use denote.Triple.Statement.{Contract}
 use denote.Triple.Spec.{tripleOf}
 use denote.Triple.Walked.{says}
@@ -24,9 +24,8 @@ use Rattle.gateway.specs.declared.Gateway.{Gateway}
 use Rattle.gateway.specs.declared.change.Change.{Change}
 use Rattle.gateway.specs.Change.{changed, Fits}
 use Rattle.gateway.specs.Calls.{Call, Answer}
-use Rattle.gateway.proofs.Gateway as T
-use Rattle.gateway.proofs.change.Change as C
-use Rattle.gateway.proofs.change.Change.Laws as C′
+use Rattle.gateway.proofs.Gateway as gateway
+use Rattle.gateway.proofs.change.Change as change
 use Rattle.results.specs.Calls.{Does, Changes}
 use Rattle.host.proofs.change.apply as apply
 
@@ -34,19 +33,19 @@ abbrev pub Apply : {M : Type 1} (𝓤 : URA M) (H : Heap 𝓤) (A : Atoms 𝓤) 
 Apply 𝓤 H A mem run = tripleOf 𝓤 H A apply.signature (apply.spec 𝓤 H A mem run)
 
 module _ {M : Type 1} (𝓤 : URA M) (H : Heap 𝓤) (A : Atoms 𝓤) (W : Given 𝓤 H A) (at-mem : Memory → SProp 𝓤) (run : Routine → Fun 𝓤)
-    (κ : Lft) (q : Share) (gateway : RefT Gateway) (c : Change) where
+    (κ : Lft) (q : Share) (lent : RefT Gateway) (c : Change) where
   -- the reference and the change, and their machine values
   abbrev given-to-apply : RefT Gateway × (Change × Unit {0})
-  given-to-apply = (gateway, (c, tt))
+  given-to-apply = (lent, (c, tt))
 
   abbrev passed-to-apply : List Val × (List Val × Unit {0})
-  passed-to-apply = (vptr (gateway .ptr .0) (gateway .ptr .1) ∷ [], (LL.vals C.the-type C′.the-laws c, tt))
+  passed-to-apply = (vptr (lent .ptr .0) (lent .ptr .1) ∷ [], (structs.vals change.the-type change.Laws.the-laws c, tt))
 
   abbrev pub to-apply : Apply 𝓤 H A at-mem run .Ghost
   to-apply = (((κ, tt), (q, tt), tt, given-to-apply, passed-to-apply), tt)
 
   abbrev owned : Fml
-  owned = owns (MutRef (named 0) κ T.the-row ∷ C.the-row ∷ []) given-to-apply passed-to-apply
+  owned = owns (MutRef (named 0) κ gateway.the-row ∷ change.the-row ∷ []) given-to-apply passed-to-apply
 
   pub goes-apply : Fits c → ent 𝓤 (⋆ 𝓤 H A ((‵ (flft κ q) ⊛ ‵ ftrue) ∷ ‵ owned ∷ [])) (Apply 𝓤 H A at-mem run .pre to-apply)
   goes-apply fits = qed W ((‵ (flft κ q) ⊛ ‵ ftrue) ∷ ‵ owned ∷ []) ∵ says ! fits $ frame ! $ done !

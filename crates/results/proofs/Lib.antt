@@ -1,3 +1,3 @@
 -- Laws that belong to no one function.
 pub mod Changing
-pub mod Exporting
+pub mod Exporter

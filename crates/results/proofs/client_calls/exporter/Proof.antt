@@ -12,7 +12,7 @@ use Rattle.wire.proofs.Writes.{front-first}
 use Rattle.algorithms.specs.Sizes.{knownAead}
 use Rattle.results.specs.Client.{exporterRefusal}
 use Rattle.results.specs.Outcome.{notTwoNumbered}
-use Rattle.results.proofs.Exporting.{exporter-refused, exporter-accepted}
+use Rattle.results.proofs.Exporter.{exporter-refused, exporter-accepted}
 use borrow.Author.Needs.{needs}
 use Rattle.results.proofs.client_calls.exporter.Statement.{statement}
 use Rattle.results.proofs.client_calls.exporter.Tie as tie
