@@ -136,7 +136,7 @@ module _ (Result : Declared) (result-laws : structs.Laws Result) (result-plain :
   abbrev result-in : Done → Result .D
   result-in d = parts d .1 .0
 
-  -- ---- the contracts of the call and of x_of
+  -- ---- the contracts of the export and of the function that it calls
   abbrev params : List (Slot (suc n))
   params = slots (suc n) 1 ps
 
@@ -271,7 +271,7 @@ module _ (Result : Declared) (result-laws : structs.Laws Result) (result-plain :
       abbrev Post : Val → SProp 𝓤
       Post = walkOf 𝓤 H A ended stayed (clauses 𝓤) .post ((κs, qs, tt, a, at), tt)
 
-      -- what x_of is passed, what is left of that, and what x_of ensures
+      -- what that function is passed, what is left of that, and what it ensures
       abbrev args : Args (step-ended .signature) (κs .1)
       args = (before, on n κs 0 ps (a .1))
 
@@ -349,7 +349,7 @@ module _ (Result : Declared) (result-laws : structs.Laws Result) (result-plain :
             assigns ! (of-opd ! (load ! (from ! (hop ! (look ! 15 refl) (stop !))) (look-raw ! 0 refl))) (from-at ! is-copy (stop !))
             (init ! 11 refl (structs.lawful gateway.the-type gateway.Laws.the-laws 𝓤 H A W .typed before _ was .0)) $
             closes ! tt gateway.the-row before (gateway-values before) b o $
-            -- the buffers are lent again, and x_of is called
+            -- the buffers are lent again, and the function is called
             move ! (3 ∷ 8 ∷ []) $ lends (suc n) κs E ! 1 ps (a .1) typed-vs 2 again-at bs ls is-passed is-again $ move ! (2 ∷ 3 ∷ 4 ∷ []) $
             -- [obs; the borrow; the token; the parameters; what lends them again; the other locals, from the last; what the parameters own;
             -- the tokens]
@@ -401,7 +401,7 @@ module _ (Result : Declared) (result-laws : structs.Laws Result) (result-plain :
         (λ κs. (ptr-vals, spelled (suc n) κs 1 ps)) (λ κs. (mut-tells (named 0) (κs .0) gateway.the-row, told (suc n) κs 1 ps))
         (λ κs qs bounds a g are. via 𝓤 _ (fst∗ 𝓤 _ (emp 𝓤)) (walk κs qs a (are .1) step Cs Λ fm step-meets apply-meets))
 
-  -- ---- the law, over what Rattle makes for the call (env, key, that it is its code, that `apply` is what it calls) and for x_of (name, routine,
+  -- ---- the law, over what Rattle makes for the call (env, key, that it is its code, that `apply` is what it calls) and for the function that it calls (name, routine,
   -- that it is what the call calls, its proof)
   pub law : {M : Type 1} (𝓤 : URA M) (H : Heap 𝓤) (𝓜 : Model 𝓤 H) (𝓖 : GhostRules 𝓤 H) (𝓡 : Running 𝓤 H 𝓜) (env : Routines) (key step : Name)
       → Closed 𝓤 H (tables 𝓤 H 𝓜 𝓡 env .C) (tables 𝓤 H 𝓜 𝓡 env .Λ) key (function step) → env apply-symbol.name ≡ apply-symbol.routine
