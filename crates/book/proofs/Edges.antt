@@ -9,6 +9,7 @@ use Rattle.keylist.specs.Layout.{parse, parseFrom, layoutHolds, configurationAt
 use Rattle.keylist.specs.Edges.{hex, edgeList}
 use Rattle.keylist.proofs.Edges.{list-edges}
 use Rattle.request.specs.Request.{requestRefusal}
+use Rattle.exchange.specs.Exchange.{leftIn}
 use Rattle.exchange.specs.Steps.{refusalBy, stepNumber}
 use Rattle.keys.specs.Keys.{keyRefusal, retireRefusal}
 use Rattle.keys.specs.Stored.{keysOf, storedKeys}
@@ -22,7 +23,7 @@ use Rattle.book.specs.Demand3.{withOwnCalls}
 use Rattle.book.specs.Edges.{GatewayEdges, MovedExample}
 
 pub gateway-edges : GatewayEdges
-unfolding ascii requestLabel firstPlace anyPasses table rowOf knownKem knownKdf knownAead encLength publicKeyLength keyLength parse parseFrom layoutHolds configurationAt pairsAt hex edgeList requestRefusal refusalBy keyRefusal retireRefusal keysOf storedKeys admitRefusal freePlace pendingIn gatewayDoes number trace final admissionsOf ticketsGiven stepNumber
+unfolding ascii requestLabel firstPlace anyPasses table rowOf knownKem knownKdf knownAead encLength publicKeyLength keyLength parse parseFrom layoutHolds configurationAt pairsAt hex edgeList requestRefusal leftIn refusalBy keyRefusal retireRefusal keysOf storedKeys admitRefusal freePlace pendingIn gatewayDoes number trace final admissionsOf ticketsGiven stepNumber
 gateway-edges =
     record {
       lists = list-edges;
@@ -47,5 +48,5 @@ gateway-edges =
     }
 
 pub moved-example : MovedExample
-unfolding ascii requestLabel firstPlace anyPasses table rowOf knownKem knownKdf knownAead encLength publicKeyLength keyLength parse parseFrom layoutHolds configurationAt pairsAt hex edgeList requestRefusal refusalBy keyRefusal retireRefusal keysOf storedKeys admitRefusal freePlace pendingIn gatewayDoes number trace final admissionsOf ticketsGiven bookDoes replaced filtered withOwnCalls stepNumber
+unfolding ascii requestLabel firstPlace anyPasses table rowOf knownKem knownKdf knownAead encLength publicKeyLength keyLength parse parseFrom layoutHolds configurationAt pairsAt hex edgeList requestRefusal leftIn refusalBy keyRefusal retireRefusal keysOf storedKeys admitRefusal freePlace pendingIn gatewayDoes number trace final admissionsOf ticketsGiven bookDoes replaced filtered withOwnCalls stepNumber
 moved-example = record { order = refl; sameAnswers = refl }

@@ -13,7 +13,7 @@ use Rattle.wire.proofs.Booleans.{either, and-right, and-false}
 use Rattle.exchange.specs.declared.Exchange.{Exchange}
 use Rattle.request.specs.declared.Request.{Request}
 use Rattle.exchange.specs.Exchange.{isFree, hasTicket, exchangeOf, asked}
-use Rattle.exchange.specs.Steps.{Step, next}
+use Rattle.exchange.specs.Steps.{Step, next, leaves}
 use Rattle.exchange.proofs.Moves.{next-ticket}
 use Rattle.book.specs.Book.{remaining, replaced}
 
@@ -39,7 +39,7 @@ pub next-other : (t u : ℕ) (step : Step) (xs : List Exchange) → (t ≡ u →
 next-other t u step xs apart =
     let left = next step (exchangeOf u xs) in
     either (isFree left) (λ f. rw f)
-    (λ f. let same : left .ticket .0 ≡ exchangeOf u xs .ticket .0 = next-ticket (step .asks) (exchangeOf u xs) f in rw same (exchange-other t u xs apart))
+    (λ f. let same : left .ticket .0 ≡ exchangeOf u xs .ticket .0 = next-ticket (leaves (step .asks)) (exchangeOf u xs) f in rw same (exchange-other t u xs apart))
 
 -- an exchange that has not the ticket
 module _ (t : ℕ) (x : Exchange) (not-its : hasTicket t x ≡ false) where

@@ -12,7 +12,7 @@ use Rattle.wire.proofs.Booleans.{either, and-left, and-right}
 use Rattle.keylist.specs.Layout.{Configuration, mostConfigurations, good, parse}
 use Rattle.request.specs.Request.{keyIdOf, fieldsOf}
 use Rattle.exchange.specs.Exchange.{exchangeOf, asked}
-use Rattle.exchange.specs.Steps.{Step, next}
+use Rattle.exchange.specs.Steps.{Step, next, leaves}
 use Rattle.keys.specs.Keys.{Key, placeOfKey, keyAt, freshKey, withRetirement}
 use Rattle.gateway.specs.Registry.{capHolds, mostUses}
 use Rattle.gateway.specs.Calls.{Call, admit, retire, onTicket, reporting}
@@ -87,7 +87,7 @@ moved-sound ticket step b s accepted =
     let e = exchangeOf ticket (b .pending) in
     let fewer : (other : ℕ) → holding other (bookStepped ticket step b .pending) ≤ holding other (b .pending) =
     λ other. holding-replaced other ticket (next step e) (b .pending)
-    (λ h. next-ticket (step .asks) e h ∙ found-has ticket (b .pending) (accepted-pending step e accepted)) in
+    (λ h. next-ticket (leaves (step .asks)) e h ∙ found-has ticket (b .pending) (accepted-pending step e accepted)) in
     record {
       capLeast = s .capLeast;
       capBound = s .capBound;

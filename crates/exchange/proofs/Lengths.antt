@@ -40,7 +40,7 @@ lengths enc nonce plain e h =
 -- no refusal: the exchange is pending, the call is allowed, its lengths hold, and the buffer has room
 pub record Accepted (asks : Move) (enc nonce room : ℕ) (e : Exchange) : Type 0 where
   pub pending : isFree e ≡ false
-  pub isAllowed : isAllowed asks e ≡ true
+  pub allowed : isAllowed asks e ≡ true
   pub lengthsHold : lengthsHold asks enc nonce e ≡ true
   pub fits : enc + nonce ≤ room
 
@@ -53,7 +53,7 @@ accepted-by asks enc nonce room e h =
     let (fits, none) = not-refused 13 (ltb room (enc + nonce)) _ h14 in
     record {
       pending = pending;
-      isAllowed = not-false (isAllowed asks e) allowed;
+      allowed = not-false (isAllowed asks e) allowed;
       lengthsHold = not-false (lengthsHold asks enc nonce e) held;
       fits = ltb-false room (enc + nonce) fits;
     }

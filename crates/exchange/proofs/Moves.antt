@@ -4,39 +4,43 @@ use mathlib.Core.Path.{_≡_, refl}
 use mathlib.Core.Bool.{true, false}
 use Prim.Native.Nat.{ℕ}
 use Rattle.wire.specs.Tests.{pick}
-use Rattle.wire.proofs.Booleans.{true-or-false}
+use lib.Dec.{eqb}
+use Rattle.wire.proofs.Booleans.{either, true-or-false}
 use Rattle.exchange.specs.declared.Exchange.{Exchange}
 use Rattle.exchange.specs.declared.Move.{Move}
-use Rattle.exchange.specs.Exchange.{free, isFree, isAsked}
-use Rattle.exchange.specs.Steps.{isAllowed, nextBy, closes, fails, accepted, stepNumber, stepUnprotected}
+use Rattle.exchange.specs.Exchange.{closedPhase, askedPhase, free, isFree, isAsked, isOpened, leftIn}
+use Rattle.exchange.specs.Steps.{whenOpened, isAllowed, leaves, closes, fails, accepted, stepNumber, stepUnprotected}
 
 -- what is left of the exchange has its ticket
-pub next-ticket : (asks : Move) (e : Exchange) → isFree (nextBy asks e) ≡ false → nextBy asks e .ticket .0 ≡ e .ticket .0
-next-ticket (Move.Open n) e h = refl
-next-ticket Move.Fail e h = absurd (true-or-false refl h)
-next-ticket (Move.Respond plain) e h = absurd (true-or-false refl h)
-next-ticket Move.Abandon e h = absurd (true-or-false refl h)
-
--- no call leaves an exchange asked
-pub next-not-asked : (asks : Move) (e : Exchange) → isAsked (nextBy asks e) ≡ false
-next-not-asked (Move.Open n) e = refl
-next-not-asked Move.Fail e = refl
-next-not-asked (Move.Respond plain) e = refl
-next-not-asked Move.Abandon e = refl
+pub next-ticket : (phase : ℕ) (e : Exchange) → isFree (leftIn phase e) ≡ false → leftIn phase e .ticket .0 ≡ e .ticket .0
+unfolding leftIn
+next-ticket phase e h = either (eqb phase closedPhase) (λ c. absurd (true-or-false refl (rw c at h))) (λ c. rw c)
 
 -- a call that closes leaves a free place
-pub closed-free : (asks : Move) (e : Exchange) → closes asks ≡ true → nextBy asks e ≡ free
-closed-free (Move.Open n) e c = absurd (true-or-false c refl)
-closed-free Move.Fail e c = refl
-closed-free (Move.Respond plain) e c = refl
-closed-free Move.Abandon e c = refl
+pub closed-free : (asks : Move) (e : Exchange) → closes asks ≡ true → leftIn (leaves asks) e ≡ free
+unfolding leftIn
+closed-free asks e c = rw c
+
+-- no call leaves an exchange asked
+leaves-not-asked : (asks : Move) → eqb (leaves asks) askedPhase ≡ false
+leaves-not-asked (Move.Open n) = refl
+leaves-not-asked Move.Fail = refl
+leaves-not-asked (Move.Respond plain) = refl
+leaves-not-asked Move.Abandon = refl
+
+pub next-not-asked : (asks : Move) (e : Exchange) → isAsked (leftIn (leaves asks) e) ≡ false
+unfolding leftIn
+next-not-asked asks e = either (closes asks) (λ c. rw c) (λ c. rw c (leaves-not-asked asks))
 
 -- only what is asked can fail
-pub failing-asked : (asks : Move) (e : Exchange) → fails asks ≡ true → isAllowed asks e ≡ isAsked e
-failing-asked (Move.Open n) e f = refl
-failing-asked Move.Fail e f = refl
-failing-asked (Move.Respond plain) e f = absurd (true-or-false f refl)
-failing-asked Move.Abandon e f = absurd (true-or-false f refl)
+failing-not-opened : (asks : Move) → fails asks ≡ true → whenOpened asks ≡ false
+failing-not-opened (Move.Open n) f = absurd (true-or-false f refl)
+failing-not-opened Move.Fail f = refl
+failing-not-opened (Move.Respond plain) f = absurd (true-or-false f refl)
+failing-not-opened Move.Abandon f = absurd (true-or-false f refl)
+
+pub failing-asked : (asks : Move) (e : Exchange) → fails asks ≡ true → isAsked e ≡ false → isAllowed asks e ≡ false
+failing-asked asks e f other = rw (other, failing-not-opened asks f) (either (isOpened e) (λ o. rw o) (λ o. rw o))
 
 -- the answer of an accepted call has no number, and is unprotected only where opening failed
 pub accepted-number : (asks : Move) (nonce : ℕ) → stepNumber (accepted asks nonce) ≡ 0

@@ -11,7 +11,7 @@ use Rattle.exchange.specs.declared.Exchange.{Exchange}
 use Rattle.exchange.specs.declared.Move.{Move}
 use Rattle.exchange.specs.declared.StepAnswer.{StepAnswer}
 use Rattle.exchange.specs.Exchange.{isFree, isAsked}
-use Rattle.exchange.specs.Steps.{Step, isAllowed, refusalBy, refusal, fails, accepted, answerBy, answer, stepNumber, stepUnprotected}
+use Rattle.exchange.specs.Steps.{Step, refusalBy, refusal, fails, accepted, answerBy, answer, stepNumber, stepUnprotected}
 use Rattle.exchange.proofs.Lengths.{Accepted, accepted-by}
 use Rattle.exchange.proofs.Moves.{failing-asked, accepted-number, accepted-unprotected}
 
@@ -57,5 +57,5 @@ not-asked-silent step e other =
     step-unprotected step e
     ∙ silent-by (refusal step e) (step .asks)
     (λ z. either (fails (step .asks))
-    (λ f. absurd (true-or-false (found-by step e z .isAllowed) (failing-asked (step .asks) e f ∙ other)))
+    (λ f. absurd (true-or-false (found-by step e z .allowed) (failing-asked (step .asks) e f other)))
     (λ f. f))

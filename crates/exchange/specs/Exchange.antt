@@ -4,7 +4,7 @@ use mathlib.Core.Bool.{Bool, not}
 use mathlib.Core.List.{List}
 use lib.Dec.{eqb, leb}
 use lib.ListN.{getD}
-use Rattle.wire.specs.Tests.{_and_}
+use Rattle.wire.specs.Tests.{pick, _and_}
 use Rattle.wire.specs.Search.{firstPlace}
 use Rattle.algorithms.specs.Sizes.{knownKem, knownAead, encLength, responseNonceLength, tagLength}
 use Rattle.exchange.specs.declared.Exchange.{Exchange}
@@ -55,18 +55,18 @@ asked ticket request =
       phase = record { 0 = askedPhase };
     }
 
--- the same exchange, opened
-abbrev pub opened : Exchange → Exchange
-opened e =
-    record {
+-- the same exchange in another phase; closed, it is a free place
+unfoldable pub leftIn : ℕ → Exchange → Exchange
+leftIn phase e =
+    pick (eqb phase closedPhase) free (record {
       ticket = e .ticket;
       «ciphertext_length» = e .«ciphertext_length»;
       kem = e .kem;
       kdf = e .kdf;
       aead = e .aead;
       «key_id» = e .«key_id»;
-      phase = record { 0 = openedPhase };
-    }
+      phase = record { 0 = phase };
+    })
 
 -- it is pending and has the ticket
 abbrev pub hasTicket : ℕ → Exchange → Bool

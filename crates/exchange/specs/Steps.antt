@@ -2,15 +2,15 @@
 use Prim.Native.Nat.{ℕ, zero, suc, _+_}
 use mathlib.Core.Bool.{Bool, true, false, not}
 use mathlib.Core.List.{List, [], _++_}
-use lib.Dec.{ltb}
+use lib.Dec.{eqb, ltb}
 use lib.ListN.{length}
-use Rattle.wire.specs.Tests.{_or_}
+use Rattle.wire.specs.Tests.{pick}
 use Rattle.wire.specs.Refusals.{_when_otherwise_, refused, unlessRefused, written}
 use Rattle.algorithms.specs.Sizes.{tagLength}
 use Rattle.exchange.specs.declared.Exchange.{Exchange}
 use Rattle.exchange.specs.declared.Move.{Move}
 use Rattle.exchange.specs.declared.StepAnswer.{StepAnswer}
-use Rattle.exchange.specs.Exchange.{free, isFree, isAsked, isOpened, opened, hasOpenedLength, responseHolds}
+use Rattle.exchange.specs.Exchange.{closedPhase, openedPhase, isFree, isAsked, isOpened, leftIn, hasOpenedLength, responseHolds}
 
 -- a call on a ticket: what it asks of the exchange, and the bytes that it brings: enc, nonce and salt buffer, all empty but for respond
 pub record Step : Type 0 where
@@ -38,12 +38,28 @@ respond enc nonce plain salt = step (Move.Respond plain) enc nonce salt
 abbrev pub abandon : Step
 abandon = bare Move.Abandon
 
--- "Only when asked"; "Only when opened"; "from asked or opened"
+-- "Only when asked", open result; "Only when opened", respond; "from asked or opened", abandon
+abbrev pub whenAsked : Move → Bool
+whenAsked (Move.Open n) = true
+whenAsked Move.Fail = true
+whenAsked (Move.Respond plain) = false
+whenAsked Move.Abandon = true
+
+abbrev pub whenOpened : Move → Bool
+whenOpened (Move.Open n) = false
+whenOpened Move.Fail = false
+whenOpened (Move.Respond plain) = true
+whenOpened Move.Abandon = true
+
 abbrev pub isAllowed : Move → Exchange → Bool
-isAllowed (Move.Open n) e = isAsked e
-isAllowed Move.Fail e = isAsked e
-isAllowed (Move.Respond plain) e = isOpened e
-isAllowed Move.Abandon e = isAsked e or isOpened e
+isAllowed asks e = pick (isAsked e) (whenAsked asks) (pick (isOpened e) (whenOpened asks) false)
+
+-- the phase that an accepted call leaves: "makes the exchange opened", or "closes"
+abbrev pub leaves : Move → ℕ
+leaves (Move.Open n) = openedPhase
+leaves Move.Fail = closedPhase
+leaves (Move.Respond plain) = closedPhase
+leaves Move.Abandon = closedPhase
 
 -- the lengths that it brings, with those of enc and nonce, are the exchange's
 abbrev pub lengthsHold : Move → ℕ → ℕ → Exchange → Bool
@@ -64,15 +80,9 @@ refusalBy asks encSize nonceSize room e =
 abbrev pub refusal : Step → Exchange → ℕ
 refusal s e = refusalBy (s .asks) (length (s .enc)) (length (s .nonce)) (length (s .salt)) e
 
--- what an accepted call makes of the exchange: opened, or closed
-abbrev pub nextBy : Move → Exchange → Exchange
-nextBy (Move.Open n) e = opened e
-nextBy Move.Fail e = free
-nextBy (Move.Respond plain) e = free
-nextBy Move.Abandon e = free
-
+-- what an accepted call makes of the exchange
 abbrev pub next : Step → Exchange → Exchange
-next s e = nextBy (s .asks) e
+next s e = leftIn (leaves (s .asks)) e
 
 -- what a call leaves of the exchange
 abbrev pub after : Step → Exchange → Exchange
@@ -80,10 +90,7 @@ after s e = unlessRefused (refusal s e) (next s e) e
 
 -- the calls that close the exchange where they are accepted
 abbrev pub closes : Move → Bool
-closes (Move.Open n) = false
-closes Move.Fail = true
-closes (Move.Respond plain) = true
-closes Move.Abandon = true
+closes asks = eqb (leaves asks) closedPhase
 
 -- the failure of open result
 abbrev pub fails : Move → Bool

@@ -2,9 +2,8 @@
 // back in its next state, with the answer.
 ghost use mathlib.Core.Path.{_≡_};
 ghost use mathlib.Core.Bool.{true};
-ghost use Rattle.wire.specs.Tests.{_or_};
-ghost use Rattle.exchange.specs.Exchange.{free, isFree, isAsked, isOpened, asked, opened, hasOpenedLength, responseHolds};
-ghost use Rattle.exchange.specs.Steps.{step, isAllowed, lengthsHold, refusalBy, nextBy, after, accepted, answer, buffer};
+ghost use Rattle.exchange.specs.Exchange.{free, isFree, asked, leftIn, hasOpenedLength, responseHolds};
+ghost use Rattle.exchange.specs.Steps.{step, whenAsked, whenOpened, leaves, isAllowed, lengthsHold, refusalBy, after, accepted, answer, buffer};
 use algorithms::Aead;
 use algorithms::Kem;
 use algorithms::Size;
@@ -56,6 +55,44 @@ pub enum Move {
     Fail,
     Respond(u64),
     Abandon,
+}
+
+impl Move {
+    // The call is allowed when the exchange is asked.
+    fn when_asked(self) -> bool
+        ensures { λ r. ⌜ r ≡ whenAsked self ⌝ }
+    {
+        match self {
+            Move::Open(_) => true,
+            Move::Fail => true,
+            Move::Respond(_) => false,
+            Move::Abandon => true,
+        }
+    }
+
+    // The call is allowed when the exchange is opened.
+    fn when_opened(self) -> bool
+        ensures { λ r. ⌜ r ≡ whenOpened self ⌝ }
+    {
+        match self {
+            Move::Open(_) => false,
+            Move::Fail => false,
+            Move::Respond(_) => true,
+            Move::Abandon => true,
+        }
+    }
+
+    // The phase that the call leaves where it is accepted.
+    fn leaves(self) -> u8
+        ensures { λ r. ⌜ r ≡ leaves self ⌝ }
+    {
+        match self {
+            Move::Open(_) => Phase::OPENED,
+            Move::Fail => Phase::CLOSED,
+            Move::Respond(_) => Phase::CLOSED,
+            Move::Abandon => Phase::CLOSED,
+        }
+    }
 }
 
 // A response to be sealed: the outer status and the length of the encapsulated response.
@@ -118,7 +155,7 @@ impl Exchange {
         overwrite(salt, 0, enc);
         overwrite(salt, enc.len(), nonce);
         Moved {
-            exchange: self.next(asks),
+            exchange: self.left_in(asks.leaves()),
             answer: self.accepted(asks, enc.len(), nonce.len()),
         }
     }
@@ -136,22 +173,6 @@ impl Exchange {
             aead: request.aead,
             key_id,
             phase: Phase(Phase::ASKED),
-        }
-    }
-
-    fn opened(self) -> Self
-        ensures { λ r. ⌜ r ≡ opened self ⌝ }
-    {
-        let ticket = self.ticket;
-        let key_id = self.key_id;
-        Exchange {
-            ticket,
-            ciphertext_length: self.ciphertext_length,
-            kem: self.kem,
-            kdf: self.kdf,
-            aead: self.aead,
-            key_id,
-            phase: Phase(Phase::OPENED),
         }
     }
 
@@ -181,33 +202,13 @@ impl Exchange {
     fn allows(self, asks: Move) -> bool
         ensures { λ r. ⌜ r ≡ isAllowed asks self ⌝ }
     {
-        match asks {
-            Move::Open(_) => self.is_asked(),
-            Move::Fail => self.is_asked(),
-            Move::Respond(_) => self.is_opened(),
-            Move::Abandon => self.is_asked_or_opened(),
+        if self.phase.0 == Phase::ASKED {
+            return asks.when_asked();
         }
-    }
-
-    fn is_asked(self) -> bool
-        ensures { λ r. ⌜ r ≡ isAsked self ⌝ }
-    {
-        self.phase.0 == Phase::ASKED
-    }
-
-    fn is_opened(self) -> bool
-        ensures { λ r. ⌜ r ≡ isOpened self ⌝ }
-    {
-        self.phase.0 == Phase::OPENED
-    }
-
-    fn is_asked_or_opened(self) -> bool
-        ensures { λ r. ⌜ r ≡ (isAsked self or isOpened self) ⌝ }
-    {
-        if self.is_asked() {
-            return true;
+        if self.phase.0 == Phase::OPENED {
+            return asks.when_opened();
         }
-        self.is_opened()
+        false
     }
 
     // The lengths that the call brings are those of the exchange.
@@ -222,16 +223,17 @@ impl Exchange {
         }
     }
 
-    // What an accepted call makes of the exchange.
-    fn next(self, asks: Move) -> Self
-        ensures { λ r. ⌜ r ≡ nextBy asks self ⌝ }
+    // The exchange in another phase; closed, it is a free place.
+    fn left_in(self, phase: u8) -> Self
+        ensures { λ r. ⌜ r ≡ leftIn phase self ⌝ }
     {
-        match asks {
-            Move::Open(_) => self.opened(),
-            Move::Fail => Exchange::free(),
-            Move::Respond(_) => Exchange::free(),
-            Move::Abandon => Exchange::free(),
+        if phase == Phase::CLOSED {
+            return Exchange::free();
         }
+        let phase = Phase(phase);
+        let mut next = self;
+        next.phase = phase;
+        next
     }
 
     // What an accepted call answers. Its lengths hold, so that their sum fits.

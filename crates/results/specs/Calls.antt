@@ -19,7 +19,7 @@ use Rattle.results.specs.declared.outcome.Outcome.{Outcome}
 use Rattle.results.specs.declared.outcome.NumberResult.{NumberResult}
 use Rattle.results.specs.declared.gateway_calls.AdmitResult.{AdmitResult}
 use Rattle.results.specs.declared.gateway_calls.ReportResult.{ReportResult}
-use Rattle.results.specs.Outcome.{sends, refusedBy, numbered, notNumbered}
+use Rattle.results.specs.Outcome.{sends, refusedBy, sent, numbered, notNumbered}
 
 -- the number of keys
 abbrev pub setupResult : SetupAnswer → NumberResult
@@ -35,17 +35,22 @@ problemType false = 0
 abbrev pub refusedAdmit : AdmitRefusal → Outcome
 refusedAdmit r = record { number = r .number; place = 0; status = r .status; problem = problemType (r .«key_problem») }
 
--- an answer's refusal, and the status that it sends: admit's refusals, a failed opening, a sealed response
+-- of an answer to a call on a ticket: the status that is sent, of a failed opening or of a sealed response; and a number, 1 where the exchange is
+-- opened now, the encapsulated length of a sealed response
+abbrev pub ofTicket : StepAnswer → NumberResult
+ofTicket StepAnswer.Opened = sent 0 1
+ofTicket (StepAnswer.Failed status) = sent status 0
+ofTicket (StepAnswer.Sealed s) = sent (s .status) (s .length)
+ofTicket StepAnswer.Abandoned = sent 0 0
+ofTicket (StepAnswer.Refused r) = notNumbered r
+
+-- an answer's refusal, and the status that it sends
 abbrev pub outcomeOf : Answer → Outcome
 outcomeOf (ofAdmit (AdmitAnswer.Admitted a)) = sends 0
 outcomeOf (ofAdmit (AdmitAnswer.Refused r)) = refusedAdmit r
 outcomeOf (ofRetire RetireAnswer.Retired) = sends 0
 outcomeOf (ofRetire (RetireAnswer.Refused r)) = refusedBy r
-outcomeOf (ofStep StepAnswer.Opened) = sends 0
-outcomeOf (ofStep (StepAnswer.Failed status)) = sends status
-outcomeOf (ofStep (StepAnswer.Sealed s)) = sends (s .status)
-outcomeOf (ofStep StepAnswer.Abandoned) = sends 0
-outcomeOf (ofStep (StepAnswer.Refused r)) = refusedBy r
+outcomeOf (ofStep a) = ofTicket a .outcome
 outcomeOf (ofReport r) = sends 0
 
 -- the admission that an answer holds, all 0 where it holds none
@@ -83,19 +88,12 @@ admitResult answer =
       «key_id» = admissionIn answer .«key_id» .0;
     }
 
--- 1 where the answer is that the exchange is opened, the encapsulated length of a sealed response
-abbrev pub numberIn : Answer → ℕ
-numberIn (ofStep StepAnswer.Opened) = 1
-numberIn (ofStep (StepAnswer.Failed status)) = 0
-numberIn (ofStep (StepAnswer.Sealed s)) = s .length
-numberIn (ofStep StepAnswer.Abandoned) = 0
-numberIn (ofStep (StepAnswer.Refused r)) = 0
-numberIn (ofAdmit r) = 0
-numberIn (ofRetire r) = 0
-numberIn (ofReport r) = 0
-
+-- the result of a call on a ticket; the other calls have other results
 abbrev pub stepResult : Answer → NumberResult
-stepResult answer = record { outcome = outcomeOf answer; number = numberIn answer }
+stepResult (ofStep a) = ofTicket a
+stepResult (ofAdmit a) = numbered 0
+stepResult (ofRetire a) = numbered 0
+stepResult (ofReport a) = numbered 0
 
 -- the report that an answer holds, an empty one where it holds none
 abbrev pub noReport : Report

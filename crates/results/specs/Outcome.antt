@@ -14,8 +14,11 @@ abbrev pub refusedBy : Refusal → Outcome
 refusedBy r = record { number = r .number; place = r .place; status = 0; problem = 0 }
 
 -- an outcome with a number, or with two; 0 on refusal
+abbrev pub sent : ℕ → ℕ → NumberResult
+sent status n = record { outcome = sends status; number = n }
+
 abbrev pub numbered : ℕ → NumberResult
-numbered n = record { outcome = sends 0; number = n }
+numbered n = sent 0 n
 
 abbrev pub notNumbered : Refusal → NumberResult
 notNumbered r = record { outcome = refusedBy r; number = 0 }

@@ -7,7 +7,7 @@ ghost use Rattle.exchange.specs.Steps.{step, bare, openResult, respond, abandon
 ghost use Rattle.gateway.specs.Registry.{setup, setupAnswer};
 ghost use Rattle.gateway.specs.Gateway.{freshGateway};
 ghost use Rattle.gateway.specs.Calls.{admit, retire, onTicket, reporting, ofAdmit, ofRetire, ofStep, gatewayDoes};
-ghost use Rattle.results.specs.Calls.{Changes, outcomeOf, numberIn, problemType, setupResult, admitResult, stepResult, reportResult};
+ghost use Rattle.results.specs.Calls.{Changes, ofTicket, outcomeOf, problemType, setupResult, admitResult, stepResult, reportResult};
 use crate::outcome::NumberResult;
 use crate::outcome::Outcome;
 use exchange::Move;
@@ -117,19 +117,41 @@ pub fn step(
     }
 }
 
-// Open result: `success` is 0 where the host could not open the request, and any other number where it opened n bytes. The number is 1 where
-// the exchange is opened now.
-pub fn open(gateway: Gateway, ticket: u64, success: u8, n: u64) -> Stepping
-    ensures { λ r. ⌜ Changes stepResult (onTicket ticket (openResult (not (eqb success 0)) n))
-        gateway (r .change) (r .result) [] ⌝ }
+// A call on a ticket that brings no bytes.
+fn bare_step(gateway: Gateway, ticket: u64, asks: Move) -> Stepping
+    ensures { λ r. ⌜ Changes stepResult (onTicket ticket (bare asks)) gateway (r .change) (r .result) [] ⌝ }
 {
-    let done = gateway.step(Ticket(ticket), opening(success, n));
+    let done = gateway.step(Ticket(ticket), asks);
     let change = done.change;
     let answer = done.answer;
     Stepping {
         change,
         result: step_result(answer),
     }
+}
+
+// The same for a host that is told no number.
+fn bare_outcome(gateway: Gateway, ticket: u64, asks: Move) -> Closing
+    ensures { λ r. ⌜ Changes outcomeOf (onTicket ticket (bare asks)) gateway (r .change) (r .result) [] ⌝ }
+{
+    let done = gateway.step(Ticket(ticket), asks);
+    let change = done.change;
+    let answer = done.answer;
+    let result = step_result(answer);
+    let outcome = result.outcome;
+    Closing {
+        change,
+        result: outcome,
+    }
+}
+
+// Open result: `success` is 0 where the host could not open the request, and any other number where it opened n bytes. The number is 1 where
+// the exchange is opened now.
+pub fn open(gateway: Gateway, ticket: u64, success: u8, n: u64) -> Stepping
+    ensures { λ r. ⌜ Changes stepResult (onTicket ticket (openResult (not (eqb success 0)) n))
+        gateway (r .change) (r .result) [] ⌝ }
+{
+    bare_step(gateway, ticket, opening(success, n))
 }
 
 fn opening(success: u8, n: u64) -> Move
@@ -161,13 +183,7 @@ pub fn respond(
 pub fn abandon(gateway: Gateway, ticket: u64) -> Closing
     ensures { λ r. ⌜ Changes outcomeOf (onTicket ticket abandon) gateway (r .change) (r .result) [] ⌝ }
 {
-    let done = gateway.step(Ticket(ticket), Move::Abandon);
-    let change = done.change;
-    let answer = done.answer;
-    Closing {
-        change,
-        result: step_outcome(answer),
-    }
+    bare_outcome(gateway, ticket, Move::Abandon)
 }
 
 // Retire: later admissions refuse the key; pending exchanges go on.
@@ -251,37 +267,16 @@ fn problem(key_problem: bool) -> u8
     }
 }
 
-// What goes out for an answer to a call on a ticket, or why nothing does.
-fn step_outcome(answer: StepAnswer) -> Outcome
-    ensures { λ r. ⌜ r ≡ outcomeOf (ofStep answer) ⌝ }
-{
-    match answer {
-        StepAnswer::Opened => Outcome::sends(0),
-        StepAnswer::Failed(status) => Outcome::sends(status),
-        StepAnswer::Sealed(sealed) => Outcome::sends(sealed.status),
-        StepAnswer::Abandoned => Outcome::sends(0),
-        StepAnswer::Refused(refusal) => Outcome::refused(refusal),
-    }
-}
-
-fn step_number(answer: StepAnswer) -> u64
-    ensures { λ r. ⌜ r ≡ numberIn (ofStep answer) ⌝ }
-{
-    match answer {
-        StepAnswer::Opened => 1,
-        StepAnswer::Failed(_) => 0,
-        StepAnswer::Sealed(sealed) => sealed.length,
-        StepAnswer::Abandoned => 0,
-        StepAnswer::Refused(_) => 0,
-    }
-}
-
+// What goes out for an answer to a call on a ticket, or why nothing does, and its number.
 fn step_result(answer: StepAnswer) -> NumberResult
-    ensures { λ r. ⌜ r ≡ stepResult (ofStep answer) ⌝ }
+    ensures { λ r. ⌜ r ≡ ofTicket answer ⌝ }
 {
-    NumberResult {
-        outcome: step_outcome(answer),
-        number: step_number(answer),
+    match answer {
+        StepAnswer::Opened => NumberResult::sent(0, 1),
+        StepAnswer::Failed(status) => NumberResult::sent(status, 0),
+        StepAnswer::Sealed(sealed) => NumberResult::sent(sealed.status, sealed.length),
+        StepAnswer::Abandoned => NumberResult::sent(0, 0),
+        StepAnswer::Refused(refusal) => NumberResult::refused(refusal),
     }
 }
 

@@ -1,6 +1,6 @@
 // What every answer begins with.
 ghost use mathlib.Core.Path.{_≡_};
-ghost use Rattle.results.specs.Outcome.{sends, refusedBy, numbered, notNumbered, twoNumbered, notTwoNumbered};
+ghost use Rattle.results.specs.Outcome.{sends, refusedBy, sent, numbered, notNumbered, twoNumbered, notTwoNumbered};
 use wire::refusal::Refusal;
 
 // The refusal number, 0 where the call is accepted; the refusal's place; the HTTP status to send, 0 where nothing is sent; the
@@ -52,14 +52,18 @@ pub struct NumberResult {
 }
 
 impl NumberResult {
+    // With the status that is sent, 0 where none is.
+    pub(crate) fn sent(status: u16, number: u64) -> Self
+        ensures { λ r. ⌜ r ≡ sent status number ⌝ }
+    {
+        let outcome = Outcome::sends(status);
+        NumberResult { outcome, number }
+    }
+
     pub(crate) fn of(number: usize) -> Self
         ensures { λ r. ⌜ r ≡ numbered number ⌝ }
     {
-        let outcome = Outcome::sends(0);
-        NumberResult {
-            outcome,
-            number: number as u64,
-        }
+        NumberResult::sent(0, number as u64)
     }
 
     pub(crate) fn refused(refusal: Refusal) -> Self

@@ -21,8 +21,8 @@ answer-refused zero a h = absurd (h refl)
 answer-refused (suc n) a h = refl
 
 -- from the last place back to where nothing was refused
-abbrev passed : tie.After-next → tie.Else1
-passed c = c .before .before .before .before .before .before .before .before .before
+abbrev passed : tie.After-left-in → tie.Else1
+passed c = c .before .before .before .before .before .before .before .before .before .before
 
 -- nothing is refused
 accepted : (c : tie.Else1)
@@ -49,12 +49,12 @@ returns-2 : tie.Need-returns-2
 returns-2 c =
     let a = passed (c .before) .before .before .before .before .before .args in
     let fits = accepted (passed (c .before)) in
-    let behind = c .before .before .before .before in
+    let behind = c .before .before .before .before .before in
     let front = behind .before .before .before .before in
     rw (← passed (c .before) .before .refusal .ensures, passed (c .before) .if1 .left) (
       c .accepted .ensures,
       (
-        c .before .next .ensures,
+        c .before .left-in .ensures ∙ rw (c .before .before .leaves .ensures),
         behind .overwrite2 .ensures
             ∙ rw (front .overwrite .ensures, front-first (a .enc .now) (a .salt .now) (omega arith))
             (front-more (a .enc .now) (a .nonce .now) (a .salt .now) (fits .fits)),
@@ -63,4 +63,4 @@ returns-2 c =
 
 pub moved-spec : {M : Type 1} → statement M
 moved-spec = tie.close (tie.spec (λ c κs. search needs) (λ c κs. search needs) returns (λ c κs. search needs) (λ c κs. search needs)
-    (λ c κs. search needs) accepted-requires (λ c. search needs) returns-2)
+    (λ c κs. search needs) (λ c κs. search needs) accepted-requires (λ c. search needs) returns-2)
