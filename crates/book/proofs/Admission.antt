@@ -22,9 +22,9 @@ use Rattle.book.proofs.Refining.{Alike, keys-alike}
 use Rattle.book.proofs.Refinement.{fresh-alike, alike-after}
 
 -- the number of admit's answer
-numbered : (g : Gateway) (request info : List ℕ) → number (gatewayDoes g (admit request info) .answer) ≡ admitNumber request info g
+withNumber : (g : Gateway) (request info : List ℕ) → number (gatewayDoes g (admit request info) .answer) ≡ admitNumber request info g
 unfolding gatewayDoes
-numbered g request info = admit-number (admitNumber request info g) (nextTicket g) request
+withNumber g request info = admit-number (admitNumber request info g) (nextTicket g) request
 
 -- the key that is named is the first of its id
 first-named : (g : Gateway) (b : Book) (request info : List ℕ) (h : Admissible g request info) → Alike g b
@@ -36,15 +36,15 @@ first-named g b request info h r =
 pub admission-exactly : AdmissionExactly
 admission-exactly list cap calls request info =
     let r = alike-after (freshGateway list cap) (freshBook list cap) calls (fresh-alike list cap) in (
-      λ e. admissible _ request info (sym (numbered _ request info) ∙ e),
-      λ h. numbered _ request info ∙ admitted-then _ request info h (first-named _ _ request info h r),
+      λ e. admissible _ request info (sym (withNumber _ request info) ∙ e),
+      λ h. withNumber _ request info ∙ admitted-then _ request info h (first-named _ _ request info h r),
     )
 
 -- an accepted admit puts its exchange at a place that was free
 pub place-is-free : PlaceIsFree
 unfolding gatewayDoes
 place-is-free g request info e =
-    let none = sym (numbered g request info) ∙ e in
+    let none = sym (withNumber g request info) ∙ e in
     let room = admit-accepted (registryOf g) (isFull (g .table)) request (length info) none .room in
     let place = freePlace (g .table) in
     let new = asked (nextTicket g) (fieldsOf request) in

@@ -115,12 +115,12 @@ module _ (list : List ℕ) (cap : ℕ) (calls : List Call) (ticket : ℕ) (step 
       ) (has-after P none kept ticket (bookDoes b (onTicket ticket step) .state) between start .found)
 
   -- where it closes, later calls find none
-  closed-lasts : closes (step .asks) ≡ true → (between : List Call)
+  closed-lasts : closes (step .kind) ≡ true → (between : List Call)
       → isFree (exchangeOf ticket (gatewayAfter list cap (calls ++ onTicket ticket step ∷ between) .table)) ≡ true
   closed-lasts closing =
       left-lasts (λ e. isFree e ≡ true) refl
       (λ later e z f. absurd (true-or-false f (accepted-pending later e z)))
-      (rw (closed-free (step .asks) (exchangeOf ticket (bookAfter list cap calls .pending)) closing))
+      (rw (closed-free (step .kind) (exchangeOf ticket (bookAfter list cap calls .pending)) closing))
 
   -- the exchange stands in the table
   place-inside : firstPlace (hasTicket ticket) (gatewayAfter list cap calls .table) < length (gatewayAfter list cap calls .table)
@@ -132,7 +132,7 @@ module _ (list : List ℕ) (cap : ℕ) (calls : List Call) (ticket : ℕ) (step 
       (λ l. absurd (true-or-false (ap isFree (List·getD-eq-default table free (ltb-false place (length table) l))) found))
 
   -- and the place where the exchange stood is free
-  place-free : closes (step .asks) ≡ true
+  place-free : closes (step .kind) ≡ true
       → getD (gatewayAfter list cap (calls ++ onTicket ticket step ∷ []) .table)
       (firstPlace (hasTicket ticket) (gatewayAfter list cap calls .table)) free
       ≡ free
@@ -140,7 +140,7 @@ module _ (list : List ℕ) (cap : ℕ) (calls : List Call) (ticket : ℕ) (step 
   place-free closing =
       let g = gatewayAfter list cap calls in
       let e = exchangeOf ticket (g .table) in
-      let free-after : after step e ≡ free = rw (sym (step-told g ticket step) ∙ accepted) (closed-free (step .asks) e closing) in
+      let free-after : after step e ≡ free = rw (sym (step-told g ticket step) ∙ accepted) (closed-free (step .kind) e closing) in
       rw (final-append gatewayDoes (freshGateway list cap) calls (onTicket ticket step ∷ []), free-after)
       (place-freed (g .table) (firstPlace (hasTicket ticket) (g .table)))
 
@@ -155,7 +155,7 @@ lifecycle-holds list cap calls ticket =
       afterOpening = λ opening n between step opens accepted.
           not-asked-silent step _
           (left-lasts list cap calls ticket opening accepted (λ e. isAsked e ≡ false) refl
-          (λ later e z a. next-not-asked (later .asks) e) (next-not-asked (opening .asks) _) between);
+          (λ later e z a. next-not-asked (later .kind) e) (next-not-asked (opening .kind) _) between);
       afterClosing = λ step between later closing accepted.
           step-number later _ ∙ free-refuses later _ (closed-lasts list cap calls ticket step accepted closing between);
       placeInside = λ step accepted. place-inside list cap calls ticket step accepted;

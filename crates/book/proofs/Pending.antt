@@ -39,7 +39,7 @@ pub next-other : (t u : ℕ) (step : Step) (xs : List Exchange) → (t ≡ u →
 next-other t u step xs apart =
     let left = next step (exchangeOf u xs) in
     either (isFree left) (λ f. rw f)
-    (λ f. let same : left .ticket .0 ≡ exchangeOf u xs .ticket .0 = next-ticket (leaves (step .asks)) (exchangeOf u xs) f in rw same (exchange-other t u xs apart))
+    (λ f. let same : left .ticket .0 ≡ exchangeOf u xs .ticket .0 = next-ticket (leaves (step .kind)) (exchangeOf u xs) f in rw same (exchange-other t u xs apart))
 
 -- an exchange that has not the ticket
 module _ (t : ℕ) (x : Exchange) (not-its : hasTicket t x ≡ false) where

@@ -87,7 +87,7 @@ moved-sound ticket step b s accepted =
     let e = exchangeOf ticket (b .pending) in
     let fewer : (other : ℕ) → holding other (bookStepped ticket step b .pending) ≤ holding other (b .pending) =
     λ other. holding-replaced other ticket (next step e) (b .pending)
-    (λ h. next-ticket (leaves (step .asks)) e h ∙ found-has ticket (b .pending) (accepted-pending step e accepted)) in
+    (λ h. next-ticket (leaves (step .kind)) e h ∙ found-has ticket (b .pending) (accepted-pending step e accepted)) in
     record {
       capLeast = s .capLeast;
       capBound = s .capBound;

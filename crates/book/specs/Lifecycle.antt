@@ -30,18 +30,18 @@ pub record Lifecycle (list : List ℕ) (cap : ℕ) (calls : List Call) (ticket :
   pub given : registryOf (gatewayAfter list cap calls) .lastTicket < ticket
       → holders ticket (gatewayAfter list cap calls .table) ≡ []
   -- "later ones only sealed": after an opening, whatever comes between, no call on the ticket has an unprotected answer
-  pub afterOpening : (opening : Step) (n : ℕ) (between : List Call) (step : Step) → opening .asks ≡ Move.Open n → IsAccepted list cap calls ticket opening
+  pub afterOpening : (opening : Step) (n : ℕ) (between : List Call) (step : Step) → opening .kind ≡ Move.Open n → IsAccepted list cap calls ticket opening
       → unprotectedStatus
       (gatewayDoes (gatewayAfter list cap (calls ++ onTicket ticket opening ∷ between)) (onTicket ticket step) .answer)
       ≡ 0
   -- "a closed ticket gives 11 and its place is free"
-  pub afterClosing : (step : Step) (between : List Call) (later : Step) → closes (step .asks) ≡ true → IsAccepted list cap calls ticket step
+  pub afterClosing : (step : Step) (between : List Call) (later : Step) → closes (step .kind) ≡ true → IsAccepted list cap calls ticket step
       → number
       (gatewayDoes (gatewayAfter list cap (calls ++ onTicket ticket step ∷ between)) (onTicket ticket later) .answer)
       ≡ 11
   pub placeInside : (step : Step) → IsAccepted list cap calls ticket step
       → firstPlace (hasTicket ticket) (gatewayAfter list cap calls .table) < length (gatewayAfter list cap calls .table)
-  pub placeFree : (step : Step) → closes (step .asks) ≡ true → IsAccepted list cap calls ticket step
+  pub placeFree : (step : Step) → closes (step .kind) ≡ true → IsAccepted list cap calls ticket step
       → getD (gatewayAfter list cap (calls ++ onTicket ticket step ∷ []) .table)
       (firstPlace (hasTicket ticket) (gatewayAfter list cap calls .table)) free
       ≡ free

@@ -74,7 +74,7 @@ abbrev pub unprotectedFor : Gateway → Call → ℕ
 unprotectedFor g (admit request info) = unlessRefused (admitNumber request info g) 0 (statusOf (admitNumber request info g))
 unprotectedFor g (retire id) = 0
 unprotectedFor g (onTicket ticket step) =
-    unlessRefused (refusal step (exchangeOf ticket (g .table))) (pick (fails (step .asks)) 422 0) 0
+    unlessRefused (refusal step (exchangeOf ticket (g .table))) (pick (fails (step .kind)) 422 0) 0
 unprotectedFor g reporting = 0
 
 -- for every gateway and every call

@@ -38,22 +38,22 @@ lengths enc nonce plain e h =
     }
 
 -- no refusal: the exchange is pending, the call is allowed, its lengths hold, and the buffer has room
-pub record Accepted (asks : Move) (enc nonce room : ℕ) (e : Exchange) : Type 0 where
+pub record Accepted (kind : Move) (enc nonce room : ℕ) (e : Exchange) : Type 0 where
   pub pending : isFree e ≡ false
-  pub allowed : isAllowed asks e ≡ true
-  pub lengthsHold : lengthsHold asks enc nonce e ≡ true
+  pub allowed : isAllowed kind e ≡ true
+  pub lengthsHold : lengthsHold kind enc nonce e ≡ true
   pub fits : enc + nonce ≤ room
 
-pub accepted-by : (asks : Move) (enc nonce room : ℕ) (e : Exchange) → refusalBy asks enc nonce room e ≡ 0 → Accepted asks enc nonce room e
+pub accepted-by : (kind : Move) (enc nonce room : ℕ) (e : Exchange) → refusalBy kind enc nonce room e ≡ 0 → Accepted kind enc nonce room e
 unfolding refusalBy
-accepted-by asks enc nonce room e h =
+accepted-by kind enc nonce room e h =
     let (pending, h12) = not-refused 10 (isFree e) _ h in
-    let (allowed, h13) = not-refused 11 (not (isAllowed asks e)) _ h12 in
-    let (held, h14) = not-refused 12 (not (lengthsHold asks enc nonce e)) _ h13 in
+    let (allowed, h13) = not-refused 11 (not (isAllowed kind e)) _ h12 in
+    let (held, h14) = not-refused 12 (not (lengthsHold kind enc nonce e)) _ h13 in
     let (fits, none) = not-refused 13 (ltb room (enc + nonce)) _ h14 in
     record {
       pending = pending;
-      allowed = not-false (isAllowed asks e) allowed;
-      lengthsHold = not-false (lengthsHold asks enc nonce e) held;
+      allowed = not-false (isAllowed kind e) allowed;
+      lengthsHold = not-false (lengthsHold kind enc nonce e) held;
       fits = ltb-false room (enc + nonce) fits;
     }

@@ -17,40 +17,46 @@ unfolding leftIn
 next-ticket phase e h = either (eqb phase closedPhase) (λ c. absurd (true-or-false refl (rw c at h))) (λ c. rw c)
 
 -- a call that closes leaves a free place
-pub closed-free : (asks : Move) (e : Exchange) → closes asks ≡ true → leftIn (leaves asks) e ≡ free
+closing-leaves : (kind : Move) → closes kind ≡ true → leaves kind ≡ closedPhase
+closing-leaves (Move.Open n) c = absurd (true-or-false c refl)
+closing-leaves Move.Fail c = refl
+closing-leaves (Move.Respond plain) c = refl
+closing-leaves Move.Abandon c = refl
+
+pub closed-free : (kind : Move) (e : Exchange) → closes kind ≡ true → leftIn (leaves kind) e ≡ free
 unfolding leftIn
-closed-free asks e c = rw c
+closed-free kind e c = rw (closing-leaves kind c)
 
 -- no call leaves an exchange asked
-leaves-not-asked : (asks : Move) → eqb (leaves asks) askedPhase ≡ false
+leaves-not-asked : (kind : Move) → eqb (leaves kind) askedPhase ≡ false
 leaves-not-asked (Move.Open n) = refl
 leaves-not-asked Move.Fail = refl
 leaves-not-asked (Move.Respond plain) = refl
 leaves-not-asked Move.Abandon = refl
 
-pub next-not-asked : (asks : Move) (e : Exchange) → isAsked (leftIn (leaves asks) e) ≡ false
+pub next-not-asked : (kind : Move) (e : Exchange) → isAsked (leftIn (leaves kind) e) ≡ false
 unfolding leftIn
-next-not-asked asks e = either (closes asks) (λ c. rw c) (λ c. rw c (leaves-not-asked asks))
+next-not-asked kind e = either (eqb (leaves kind) closedPhase) (λ c. rw c) (λ c. rw c (leaves-not-asked kind))
 
 -- only what is asked can fail
-failing-not-opened : (asks : Move) → fails asks ≡ true → whenOpened asks ≡ false
+failing-not-opened : (kind : Move) → fails kind ≡ true → whenOpened kind ≡ false
 failing-not-opened (Move.Open n) f = absurd (true-or-false f refl)
 failing-not-opened Move.Fail f = refl
 failing-not-opened (Move.Respond plain) f = absurd (true-or-false f refl)
 failing-not-opened Move.Abandon f = absurd (true-or-false f refl)
 
-pub failing-asked : (asks : Move) (e : Exchange) → fails asks ≡ true → isAsked e ≡ false → isAllowed asks e ≡ false
-failing-asked asks e f other = rw (other, failing-not-opened asks f) (either (isOpened e) (λ o. rw o) (λ o. rw o))
+pub failing-asked : (kind : Move) (e : Exchange) → fails kind ≡ true → isAsked e ≡ false → isAllowed kind e ≡ false
+failing-asked kind e f other = rw (other, failing-not-opened kind f) (either (isOpened e) (λ o. rw o) (λ o. rw o))
 
 -- the answer of an accepted call has no number, and is unprotected only where opening failed
-pub accepted-number : (asks : Move) (nonce : ℕ) → stepNumber (accepted asks nonce) ≡ 0
+pub accepted-number : (kind : Move) (nonce : ℕ) → stepNumber (accepted kind nonce) ≡ 0
 unfolding stepNumber
 accepted-number (Move.Open n) nonce = refl
 accepted-number Move.Fail nonce = refl
 accepted-number (Move.Respond plain) nonce = refl
 accepted-number Move.Abandon nonce = refl
 
-pub accepted-unprotected : (asks : Move) (nonce : ℕ) → stepUnprotected (accepted asks nonce) ≡ pick (fails asks) 422 0
+pub accepted-unprotected : (kind : Move) (nonce : ℕ) → stepUnprotected (accepted kind nonce) ≡ pick (fails kind) 422 0
 unfolding stepUnprotected
 accepted-unprotected (Move.Open n) nonce = refl
 accepted-unprotected Move.Fail nonce = refl

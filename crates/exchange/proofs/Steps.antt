@@ -16,8 +16,8 @@ use Rattle.exchange.proofs.Lengths.{Accepted, accepted-by}
 use Rattle.exchange.proofs.Moves.{failing-asked, accepted-number, accepted-unprotected}
 
 -- what an accepted call found
-found-by : (step : Step) (e : Exchange) → refusal step e ≡ 0 → Accepted (step .asks) (length (step .enc)) (length (step .nonce)) (length (step .salt)) e
-found-by step e h = accepted-by (step .asks) (length (step .enc)) (length (step .nonce)) (length (step .salt)) e h
+found-by : (step : Step) (e : Exchange) → refusal step e ≡ 0 → Accepted (step .kind) (length (step .enc)) (length (step .nonce)) (length (step .salt)) e
+found-by step e h = accepted-by (step .kind) (length (step .enc)) (length (step .nonce)) (length (step .salt)) e h
 
 -- 11 is tested first
 pub accepted-pending : (step : Step) (e : Exchange) → refusal step e ≡ 0 → isFree e ≡ false
@@ -34,7 +34,7 @@ answer-number zero a z = z
 answer-number (suc n) a z = refl
 
 pub step-number : (step : Step) (e : Exchange) → stepNumber (answer step e) ≡ refusal step e
-step-number step e = answer-number (refusal step e) _ (accepted-number (step .asks) (length (step .nonce)))
+step-number step e = answer-number (refusal step e) _ (accepted-number (step .kind) (length (step .nonce)))
 
 -- a refusal is not unprotected
 answer-unprotected : (n : ℕ) (a : StepAnswer) → stepUnprotected (answerBy n a) ≡ unlessRefused n (stepUnprotected a) 0
@@ -43,19 +43,19 @@ answer-unprotected zero a = refl
 answer-unprotected (suc n) a = refl
 
 pub step-unprotected : (step : Step) (e : Exchange)
-    → stepUnprotected (answer step e) ≡ unlessRefused (refusal step e) (pick (fails (step .asks)) 422 0) 0
+    → stepUnprotected (answer step e) ≡ unlessRefused (refusal step e) (pick (fails (step .kind)) 422 0) 0
 step-unprotected step e =
-    answer-unprotected (refusal step e) _ ∙ rw (accepted-unprotected (step .asks) (length (step .nonce)))
+    answer-unprotected (refusal step e) _ ∙ rw (accepted-unprotected (step .kind) (length (step .nonce)))
 
 -- and nothing of an exchange that is not asked is
-silent-by : (n : ℕ) (asks : Move) → (n ≡ 0 → fails asks ≡ false) → _≡_ {A = ℕ} (unlessRefused n (pick (fails asks) 422 0) 0) 0
-silent-by zero asks h = rw (h refl)
-silent-by (suc n) asks h = refl
+silent-by : (n : ℕ) (kind : Move) → (n ≡ 0 → fails kind ≡ false) → _≡_ {A = ℕ} (unlessRefused n (pick (fails kind) 422 0) 0) 0
+silent-by zero kind h = rw (h refl)
+silent-by (suc n) kind h = refl
 
 pub not-asked-silent : (step : Step) (e : Exchange) → isAsked e ≡ false → stepUnprotected (answer step e) ≡ 0
 not-asked-silent step e other =
     step-unprotected step e
-    ∙ silent-by (refusal step e) (step .asks)
-    (λ z. either (fails (step .asks))
-    (λ f. absurd (true-or-false (found-by step e z .allowed) (failing-asked (step .asks) e f other)))
+    ∙ silent-by (refusal step e) (step .kind)
+    (λ z. either (fails (step .kind))
+    (λ f. absurd (true-or-false (found-by step e z .allowed) (failing-asked (step .kind) e f other)))
     (λ f. f))

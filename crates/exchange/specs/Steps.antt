@@ -2,7 +2,7 @@
 use Prim.Native.Nat.{ℕ, zero, suc, _+_}
 use mathlib.Core.Bool.{Bool, true, false, not}
 use mathlib.Core.List.{List, [], _++_}
-use lib.Dec.{eqb, ltb}
+use lib.Dec.{ltb}
 use lib.ListN.{length}
 use Rattle.wire.specs.Tests.{pick}
 use Rattle.wire.specs.Refusals.{_when_otherwise_, refused, unlessRefused, written}
@@ -12,19 +12,20 @@ use Rattle.exchange.specs.declared.Move.{Move}
 use Rattle.exchange.specs.declared.StepAnswer.{StepAnswer}
 use Rattle.exchange.specs.Exchange.{closedPhase, openedPhase, isFree, isAsked, isOpened, leftIn, hasOpenedLength, responseHolds}
 
--- a call on a ticket: what it asks of the exchange, and the bytes that it brings: enc, nonce and salt buffer, all empty but for respond
+-- a call on a ticket: its kind with the numbers that it brings, and the bytes that it brings: enc, nonce and salt buffer. Of 01's calls only
+-- respond brings bytes; what any call brings is written, or refused, by the same rule
 pub record Step : Type 0 where
-  pub asks : Move
+  pub kind : Move
   pub enc : List ℕ
   pub nonce : List ℕ
   pub salt : List ℕ
 
 abbrev pub step : Move → List ℕ → List ℕ → List ℕ → Step
-step asks enc nonce salt = record { asks = asks; enc = enc; nonce = nonce; salt = salt }
+step kind enc nonce salt = record { kind = kind; enc = enc; nonce = nonce; salt = salt }
 
 -- a call that brings no bytes
 abbrev pub bare : Move → Step
-bare asks = step asks [] [] []
+bare kind = step kind [] [] []
 
 -- open result (success or failure, n): "Failure ignores n"
 abbrev pub openResult : Bool → ℕ → Step
@@ -52,7 +53,7 @@ whenOpened (Move.Respond plain) = true
 whenOpened Move.Abandon = true
 
 abbrev pub isAllowed : Move → Exchange → Bool
-isAllowed asks e = pick (isAsked e) (whenAsked asks) (pick (isOpened e) (whenOpened asks) false)
+isAllowed kind e = pick (isAsked e) (whenAsked kind) (pick (isOpened e) (whenOpened kind) false)
 
 -- the phase that an accepted call leaves: "makes the exchange opened", or "closes"
 abbrev pub leaves : Move → ℕ
@@ -70,34 +71,23 @@ lengthsHold Move.Abandon encSize nonceSize e = true
 
 -- 01, "Order", ticket calls: 11, 12, 13, 14; 0: no refusal. Of the bytes that a call brings the lengths decide
 unfoldable pub refusalBy : Move → ℕ → ℕ → ℕ → Exchange → ℕ
-refusalBy asks encSize nonceSize room e =
+refusalBy kind encSize nonceSize room e =
     11 when isFree e otherwise
-    12 when not (isAllowed asks e) otherwise
-    13 when not (lengthsHold asks encSize nonceSize e) otherwise
+    12 when not (isAllowed kind e) otherwise
+    13 when not (lengthsHold kind encSize nonceSize e) otherwise
     14 when ltb room (encSize + nonceSize) otherwise
     0
 
 abbrev pub refusal : Step → Exchange → ℕ
-refusal s e = refusalBy (s .asks) (length (s .enc)) (length (s .nonce)) (length (s .salt)) e
+refusal s e = refusalBy (s .kind) (length (s .enc)) (length (s .nonce)) (length (s .salt)) e
 
 -- what an accepted call makes of the exchange
 abbrev pub next : Step → Exchange → Exchange
-next s e = leftIn (leaves (s .asks)) e
+next s e = leftIn (leaves (s .kind)) e
 
 -- what a call leaves of the exchange
 abbrev pub after : Step → Exchange → Exchange
 after s e = unlessRefused (refusal s e) (next s e) e
-
--- the calls that close the exchange where they are accepted
-abbrev pub closes : Move → Bool
-closes asks = eqb (leaves asks) closedPhase
-
--- the failure of open result
-abbrev pub fails : Move → Bool
-fails (Move.Open n) = false
-fails Move.Fail = true
-fails (Move.Respond plain) = false
-fails Move.Abandon = false
 
 -- what an accepted call answers: opened, or on failure unprotected 422; sealed, outer status 200, and the encapsulated length: nonce +
 -- plain length + 16
@@ -113,7 +103,7 @@ answerBy zero a = a
 answerBy (suc n) a = StepAnswer.Refused (refused (suc n))
 
 abbrev pub answer : Step → Exchange → StepAnswer
-answer s e = answerBy (refusal s e) (accepted (s .asks) (length (s .nonce)))
+answer s e = answerBy (refusal s e) (accepted (s .kind) (length (s .nonce)))
 
 -- the salt buffer after the call: enc, then nonce, at its front
 abbrev pub buffer : Step → Exchange → List ℕ
@@ -134,3 +124,17 @@ stepUnprotected (StepAnswer.Failed status) = status
 stepUnprotected (StepAnswer.Sealed s) = 0
 stepUnprotected StepAnswer.Abandoned = 0
 stepUnprotected (StepAnswer.Refused r) = 0
+
+-- what the theorems say of the calls, apart from the rules above: which close the exchange where they are accepted, and which is the failure of
+-- open result
+abbrev pub closes : Move → Bool
+closes (Move.Open n) = false
+closes Move.Fail = true
+closes (Move.Respond plain) = true
+closes Move.Abandon = true
+
+abbrev pub fails : Move → Bool
+fails (Move.Open n) = false
+fails Move.Fail = true
+fails (Move.Respond plain) = false
+fails Move.Abandon = false

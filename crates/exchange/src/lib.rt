@@ -48,7 +48,7 @@ pub const UNPROCESSABLE_CONTENT: u16 = 422;
 
 pub const OK: u16 = 200;
 
-// What a call on a ticket asks of the exchange: open result, with n where the host could open the request; respond, with the length of the
+// The kind of a call on a ticket: open result, with n where the host could open the request; respond, with the length of the
 // plain response; abandon.
 pub enum Move {
     Open(u64),
@@ -138,14 +138,14 @@ impl Exchange {
         self.ticket.0 == 0
     }
 
-    // A call on the ticket, with the bytes that it brings; only respond brings any. Where it is accepted, enc and nonce are written at
-    // the front of the salt buffer.
-    pub fn moved(self, asks: Move, enc: &[u8], nonce: &[u8], salt: &mut [u8]) -> Moved
-        ensures answer { λ r. ⌜ r .answer ≡ answer (step asks (now (enc .entry)) (now (nonce .entry)) (now (salt .entry))) self ⌝ }
-        ensures next { λ r. ⌜ r .exchange ≡ after (step asks (now (enc .entry)) (now (nonce .entry)) (now (salt .entry))) self ⌝ }
-        ensures buffer { λ r. ⌜ now (salt .exit) ≡ buffer (step asks (now (enc .entry)) (now (nonce .entry)) (now (salt .entry))) self ⌝ }
+    // A call on the ticket, with the bytes that it brings, as respond does. Where it is accepted, enc and nonce are written at the front of the
+    // salt buffer.
+    pub fn moved(self, kind: Move, enc: &[u8], nonce: &[u8], salt: &mut [u8]) -> Moved
+        ensures answer { λ r. ⌜ r .answer ≡ answer (step kind (now (enc .entry)) (now (nonce .entry)) (now (salt .entry))) self ⌝ }
+        ensures next { λ r. ⌜ r .exchange ≡ after (step kind (now (enc .entry)) (now (nonce .entry)) (now (salt .entry))) self ⌝ }
+        ensures buffer { λ r. ⌜ now (salt .exit) ≡ buffer (step kind (now (enc .entry)) (now (nonce .entry)) (now (salt .entry))) self ⌝ }
     {
-        let number = self.refusal(asks, enc.len(), nonce.len(), salt.len());
+        let number = self.refusal(kind, enc.len(), nonce.len(), salt.len());
         if number != 0 {
             return Moved {
                 exchange: self,
@@ -155,8 +155,8 @@ impl Exchange {
         overwrite(salt, 0, enc);
         overwrite(salt, enc.len(), nonce);
         Moved {
-            exchange: self.left_in(asks.leaves()),
-            answer: self.accepted(asks, enc.len(), nonce.len()),
+            exchange: self.left_in(kind.leaves()),
+            answer: self.accepted(kind, enc.len(), nonce.len()),
         }
     }
 
@@ -177,16 +177,16 @@ impl Exchange {
     }
 
     // The first refusal of a call, by the lengths of what it brings; 0 where there is none.
-    fn refusal(self, asks: Move, enc: usize, nonce: usize, room: usize) -> u8
-        ensures { λ r. ⌜ r ≡ refusalBy asks enc nonce room self ⌝ }
+    fn refusal(self, kind: Move, enc: usize, nonce: usize, room: usize) -> u8
+        ensures { λ r. ⌜ r ≡ refusalBy kind enc nonce room self ⌝ }
     {
         if self.is_free() {
             return Refusal::NOT_PENDING;
         }
-        if !self.allows(asks) {
+        if !self.allows(kind) {
             return Refusal::STEP_NOT_ALLOWED;
         }
-        if !self.lengths_hold(asks, enc, nonce) {
+        if !self.lengths_hold(kind, enc, nonce) {
             return Refusal::WRONG_LENGTH;
         }
         if room < enc {
@@ -199,23 +199,23 @@ impl Exchange {
     }
 
     // The call is allowed in the exchange's state.
-    fn allows(self, asks: Move) -> bool
-        ensures { λ r. ⌜ r ≡ isAllowed asks self ⌝ }
+    fn allows(self, kind: Move) -> bool
+        ensures { λ r. ⌜ r ≡ isAllowed kind self ⌝ }
     {
         if self.phase.0 == Phase::ASKED {
-            return asks.when_asked();
+            return kind.when_asked();
         }
         if self.phase.0 == Phase::OPENED {
-            return asks.when_opened();
+            return kind.when_opened();
         }
         false
     }
 
     // The lengths that the call brings are those of the exchange.
-    fn lengths_hold(self, asks: Move, enc: usize, nonce: usize) -> bool
-        ensures { λ r. ⌜ r ≡ lengthsHold asks enc nonce self ⌝ }
+    fn lengths_hold(self, kind: Move, enc: usize, nonce: usize) -> bool
+        ensures { λ r. ⌜ r ≡ lengthsHold kind enc nonce self ⌝ }
     {
-        match asks {
+        match kind {
             Move::Open(n) => self.has_opened_length(n),
             Move::Fail => true,
             Move::Respond(plain) => self.response_holds(enc, nonce, plain),
@@ -237,11 +237,11 @@ impl Exchange {
     }
 
     // What an accepted call answers. Its lengths hold, so that their sum fits.
-    fn accepted(self, asks: Move, enc: usize, nonce: usize) -> StepAnswer
-        requires { ⌜ lengthsHold asks enc nonce self ≡ true ⌝ }
-        ensures { λ r. ⌜ r ≡ accepted asks nonce ⌝ }
+    fn accepted(self, kind: Move, enc: usize, nonce: usize) -> StepAnswer
+        requires { ⌜ lengthsHold kind enc nonce self ≡ true ⌝ }
+        ensures { λ r. ⌜ r ≡ accepted kind nonce ⌝ }
     {
-        match asks {
+        match kind {
             Move::Open(_) => StepAnswer::Opened,
             Move::Fail => StepAnswer::Failed(UNPROCESSABLE_CONTENT),
             Move::Respond(plain) => StepAnswer::Sealed(Sealed {

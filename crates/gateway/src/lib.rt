@@ -158,37 +158,37 @@ impl Gateway {
         }
     }
 
-    // A call on a ticket that brings no bytes: open result, abandon.
-    pub fn step(self, ticket: Ticket, asks: Move) -> StepChange
+    // A call on a ticket that brings no bytes, as open result and abandon.
+    pub fn step(self, ticket: Ticket, kind: Move) -> StepChange
         ensures fits { λ r. ⌜ Fits (r .change) ⌝ }
-        ensures gateway { λ r. ⌜ changed (r .change) self ≡ gatewayDoes self (onTicket (ticket .0) (bare asks)) .state ⌝ }
-        ensures answer { λ r. ⌜ ofStep (r .answer) ≡ gatewayDoes self (onTicket (ticket .0) (bare asks)) .answer ⌝ }
+        ensures gateway { λ r. ⌜ changed (r .change) self ≡ gatewayDoes self (onTicket (ticket .0) (bare kind)) .state ⌝ }
+        ensures answer { λ r. ⌜ ofStep (r .answer) ≡ gatewayDoes self (onTicket (ticket .0) (bare kind)) .answer ⌝ }
     {
         let mut salt = [0u8; 0];
-        self.step_with(ticket, asks, &[], &[], &mut salt)
+        self.step_with(ticket, kind, &[], &[], &mut salt)
     }
 
     // A call on a ticket with the bytes that it brings, as respond does: enc and nonce are written at the front of the salt buffer.
     pub fn step_with(
         self,
         ticket: Ticket,
-        asks: Move,
+        kind: Move,
         enc: &[u8],
         nonce: &[u8],
         salt: &mut [u8],
     ) -> StepChange
         ensures fits { λ r. ⌜ Fits (r .change) ⌝ }
         ensures gateway { λ r. ⌜ changed (r .change) self ≡ gatewayDoes self
-            (onTicket (ticket .0) (step asks (now (enc .entry)) (now (nonce .entry)) (now (salt .entry)))) .state ⌝ }
+            (onTicket (ticket .0) (step kind (now (enc .entry)) (now (nonce .entry)) (now (salt .entry)))) .state ⌝ }
         ensures answer { λ r. ⌜ ofStep (r .answer) ≡ gatewayDoes self
-            (onTicket (ticket .0) (step asks (now (enc .entry)) (now (nonce .entry)) (now (salt .entry)))) .answer ⌝ }
+            (onTicket (ticket .0) (step kind (now (enc .entry)) (now (nonce .entry)) (now (salt .entry)))) .answer ⌝ }
         ensures buffer { λ r. ⌜ now (salt .exit) ≡ gatewayDoes self
-            (onTicket (ticket .0) (step asks (now (enc .entry)) (now (nonce .entry)) (now (salt .entry)))) .buffer ⌝ }
+            (onTicket (ticket .0) (step kind (now (enc .entry)) (now (nonce .entry)) (now (salt .entry)))) .buffer ⌝ }
     {
         let table = self.table;
         let found = find(table, ticket);
         let pending = found.exchange;
-        let moved = pending.moved(asks, enc, nonce, salt);
+        let moved = pending.moved(kind, enc, nonce, salt);
         let exchange = moved.exchange;
         let answer = moved.answer;
         StepChange {

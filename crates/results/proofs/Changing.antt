@@ -19,11 +19,11 @@ nothing-written : (n : ℕ) → [] ≡ written n [] []
 nothing-written zero = refl
 nothing-written (suc n) = refl
 
-pub bare-changes : {R : Type 0} (result : Answer → R) (g : Gateway) (ticket : ℕ) (asks : Move) (change : Change) {told : StepAnswer} {r : R}
-    → Fits change × ((changed change g ≡ gatewayDoes g (onTicket ticket (bare asks)) .state)
-    × (ofStep told ≡ gatewayDoes g (onTicket ticket (bare asks)) .answer))
+pub bare-changes : {R : Type 0} (result : Answer → R) (g : Gateway) (ticket : ℕ) (kind : Move) (change : Change) {told : StepAnswer} {r : R}
+    → Fits change × ((changed change g ≡ gatewayDoes g (onTicket ticket (bare kind)) .state)
+    × (ofStep told ≡ gatewayDoes g (onTicket ticket (bare kind)) .answer))
     → r ≡ result (ofStep told)
-    → Changes result (onTicket ticket (bare asks)) g change r []
+    → Changes result (onTicket ticket (bare kind)) g change r []
 unfolding gatewayDoes
-bare-changes result g ticket asks change done is =
-    (done .0, (done .1 .0, is ∙ ap result (done .1 .1), nothing-written (refusal (bare asks) (exchangeOf ticket (g .table)))))
+bare-changes result g ticket kind change done is =
+    (done .0, (done .1 .0, is ∙ ap result (done .1 .1), nothing-written (refusal (bare kind) (exchangeOf ticket (g .table)))))

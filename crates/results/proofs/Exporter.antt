@@ -10,12 +10,12 @@ use Rattle.wire.specs.Texts.{exporterContext}
 use borrow.Author.Tests.{ltb-false, not-false}
 use Rattle.wire.proofs.Numbers.{not-refused}
 use Rattle.algorithms.specs.Sizes.{knownAead}
-use Rattle.results.specs.Outcome.{notTwoNumbered}
+use Rattle.results.specs.Outcome.{refusedTwoNumbers}
 use Rattle.results.specs.Client.{exporterRefusal, exporterResult}
 
 -- a number other than 0: no lengths
 pub exporter-refused : (aead n : ℕ) → (n ≡ 0 → ⊥)
-    → notTwoNumbered (refused n) ≡ exporterResult aead n
+    → refusedTwoNumbers (refused n) ≡ exporterResult aead n
 exporter-refused aead zero h = absurd (h refl)
 exporter-refused aead (suc n) h = refl
 

@@ -19,12 +19,12 @@ use Rattle.results.specs.declared.outcome.Outcome.{Outcome}
 use Rattle.results.specs.declared.outcome.NumberResult.{NumberResult}
 use Rattle.results.specs.declared.gateway_calls.AdmitResult.{AdmitResult}
 use Rattle.results.specs.declared.gateway_calls.ReportResult.{ReportResult}
-use Rattle.results.specs.Outcome.{sends, refusedBy, sent, numbered, notNumbered}
+use Rattle.results.specs.Outcome.{sends, refusedBy, sent, withNumber, refusedNumber}
 
 -- the number of keys
 abbrev pub setupResult : SetupAnswer → NumberResult
-setupResult (SetupAnswer.Ready keys) = numbered keys
-setupResult (SetupAnswer.Refused r) = notNumbered r
+setupResult (SetupAnswer.Ready keys) = withNumber keys
+setupResult (SetupAnswer.Refused r) = refusedNumber r
 
 -- the problem type of an unprotected answer: 1 is ohttp-key (RFC 9458, 5.3), 0 is none
 abbrev pub problemType : Bool → ℕ
@@ -37,12 +37,12 @@ refusedAdmit r = record { number = r .number; place = 0; status = r .status; pro
 
 -- of an answer to a call on a ticket: the status that is sent, of a failed opening or of a sealed response; and a number, 1 where the exchange is
 -- opened now, the encapsulated length of a sealed response
-abbrev pub ofTicket : StepAnswer → NumberResult
-ofTicket StepAnswer.Opened = sent 0 1
-ofTicket (StepAnswer.Failed status) = sent status 0
-ofTicket (StepAnswer.Sealed s) = sent (s .status) (s .length)
-ofTicket StepAnswer.Abandoned = sent 0 0
-ofTicket (StepAnswer.Refused r) = notNumbered r
+abbrev pub ticketResult : StepAnswer → NumberResult
+ticketResult StepAnswer.Opened = sent 0 1
+ticketResult (StepAnswer.Failed status) = sent status 0
+ticketResult (StepAnswer.Sealed s) = sent (s .status) (s .length)
+ticketResult StepAnswer.Abandoned = sent 0 0
+ticketResult (StepAnswer.Refused r) = refusedNumber r
 
 -- an answer's refusal, and the status that it sends
 abbrev pub outcomeOf : Answer → Outcome
@@ -50,7 +50,7 @@ outcomeOf (ofAdmit (AdmitAnswer.Admitted a)) = sends 0
 outcomeOf (ofAdmit (AdmitAnswer.Refused r)) = refusedAdmit r
 outcomeOf (ofRetire RetireAnswer.Retired) = sends 0
 outcomeOf (ofRetire (RetireAnswer.Refused r)) = refusedBy r
-outcomeOf (ofStep a) = ofTicket a .outcome
+outcomeOf (ofStep a) = ticketResult a .outcome
 outcomeOf (ofReport r) = sends 0
 
 -- the admission that an answer holds, all 0 where it holds none
@@ -88,12 +88,12 @@ admitResult answer =
       «key_id» = admissionIn answer .«key_id» .0;
     }
 
--- the result of a call on a ticket; the other calls have other results
+-- the result of a call on a ticket; the other answers are never given to one
 abbrev pub stepResult : Answer → NumberResult
-stepResult (ofStep a) = ofTicket a
-stepResult (ofAdmit a) = numbered 0
-stepResult (ofRetire a) = numbered 0
-stepResult (ofReport a) = numbered 0
+stepResult (ofStep a) = ticketResult a
+stepResult (ofAdmit a) = withNumber 0
+stepResult (ofRetire a) = withNumber 0
+stepResult (ofReport a) = withNumber 0
 
 -- the report that an answer holds, an empty one where it holds none
 abbrev pub noReport : Report

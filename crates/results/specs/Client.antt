@@ -12,7 +12,7 @@ use Rattle.client.specs.declared.split.Parts.{Parts}
 use Rattle.results.specs.declared.client_calls.ChooseResult.{ChooseResult}
 use Rattle.results.specs.declared.outcome.NumberResult.{NumberResult}
 use Rattle.results.specs.declared.outcome.TwoNumbersResult.{TwoNumbersResult}
-use Rattle.results.specs.Outcome.{sends, refusedBy, numbered, notNumbered, twoNumbered, notTwoNumbered}
+use Rattle.results.specs.Outcome.{sends, refusedBy, withNumber, refusedNumber, withTwoNumbers, refusedTwoNumbers}
 
 abbrev pub chooseResult : Chosen → ChooseResult
 chooseResult (Chosen.Usable c) =
@@ -30,13 +30,13 @@ chooseResult (Chosen.Refused r) =
 
 -- the length of the head
 abbrev pub headResult : HeadAnswer → NumberResult
-headResult (HeadAnswer.Length n) = numbered n
-headResult (HeadAnswer.Refused r) = notNumbered r
+headResult (HeadAnswer.Length n) = withNumber n
+headResult (HeadAnswer.Refused r) = refusedNumber r
 
 -- the lengths of the two parts of a response of so many bytes
 abbrev pub splitResult : ℕ → Parts → TwoNumbersResult
-splitResult size (Parts.NonceEnd at) = twoNumbered at (size - at)
-splitResult size (Parts.Refused r) = notTwoNumbered r
+splitResult size (Parts.NonceEnd at) = withTwoNumbers at (size - at)
+splitResult size (Parts.Refused r) = refusedTwoNumbers r
 
 -- 01 has no order for the exporter context: 6 for an AEAD that is unknown, as split, then 14
 unfoldable pub exporterRefusal : ℕ → ℕ → ℕ
@@ -47,5 +47,5 @@ exporterRefusal aead room =
 
 -- the length of the context and of the secret, by the refusal number
 abbrev pub exporterResult : ℕ → ℕ → TwoNumbersResult
-exporterResult aead zero = twoNumbered (length exporterContext) (secretLength aead)
-exporterResult aead (suc n) = notTwoNumbered (refused (suc n))
+exporterResult aead zero = withTwoNumbers (length exporterContext) (secretLength aead)
+exporterResult aead (suc n) = refusedTwoNumbers (refused (suc n))

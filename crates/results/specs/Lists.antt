@@ -4,16 +4,16 @@ use Rattle.keylist.specs.declared.KeyPlace.{KeyPlace}
 use Rattle.listwriter.specs.declared.Written.{Written}
 use Rattle.results.specs.declared.outcome.NumberResult.{NumberResult}
 use Rattle.results.specs.declared.outcome.TwoNumbersResult.{TwoNumbersResult}
-use Rattle.results.specs.Outcome.{numbered, notNumbered, twoNumbered, notTwoNumbered}
+use Rattle.results.specs.Outcome.{withNumber, refusedNumber, withTwoNumbers, refusedTwoNumbers}
 
 abbrev pub checkResult : Checked → NumberResult
-checkResult (Checked.Good n) = numbered n
-checkResult (Checked.Refused r) = notNumbered r
+checkResult (Checked.Good n) = withNumber n
+checkResult (Checked.Refused r) = refusedNumber r
 
 abbrev pub keyResult : KeyPlace → TwoNumbersResult
-keyResult (KeyPlace.Found from to) = twoNumbered from to
-keyResult (KeyPlace.Refused r) = notTwoNumbered r
+keyResult (KeyPlace.Found from to) = withTwoNumbers from to
+keyResult (KeyPlace.Refused r) = refusedTwoNumbers r
 
 abbrev pub writeResult : Written → NumberResult
-writeResult (Written.Length n) = numbered n
-writeResult (Written.Refused r) = notNumbered r
+writeResult (Written.Length n) = withNumber n
+writeResult (Written.Refused r) = refusedNumber r

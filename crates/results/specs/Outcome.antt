@@ -17,14 +17,14 @@ refusedBy r = record { number = r .number; place = r .place; status = 0; problem
 abbrev pub sent : ℕ → ℕ → NumberResult
 sent status n = record { outcome = sends status; number = n }
 
-abbrev pub numbered : ℕ → NumberResult
-numbered n = sent 0 n
+abbrev pub withNumber : ℕ → NumberResult
+withNumber n = sent 0 n
 
-abbrev pub notNumbered : Refusal → NumberResult
-notNumbered r = record { outcome = refusedBy r; number = 0 }
+abbrev pub refusedNumber : Refusal → NumberResult
+refusedNumber r = record { outcome = refusedBy r; number = 0 }
 
-abbrev pub twoNumbered : ℕ → ℕ → TwoNumbersResult
-twoNumbered first second = record { outcome = sends 0; first = first; second = second }
+abbrev pub withTwoNumbers : ℕ → ℕ → TwoNumbersResult
+withTwoNumbers first second = record { outcome = sends 0; first = first; second = second }
 
-abbrev pub notTwoNumbered : Refusal → TwoNumbersResult
-notTwoNumbered r = record { outcome = refusedBy r; first = 0; second = 0 }
+abbrev pub refusedTwoNumbers : Refusal → TwoNumbersResult
+refusedTwoNumbers r = record { outcome = refusedBy r; first = 0; second = 0 }

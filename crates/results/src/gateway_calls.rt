@@ -1,4 +1,4 @@
-// Setup and the six calls, as hosts get them: each takes a gateway by value, and hands on what it changes with a plain struct as the result.
+// Setup and the six calls, as hosts get them: each answers a plain struct, and those that change the gateway what they change.
 ghost use mathlib.Core.Path.{_≡_};
 ghost use mathlib.Core.Bool.{not};
 ghost use mathlib.Core.List.{[]};
@@ -7,7 +7,7 @@ ghost use Rattle.exchange.specs.Steps.{step, bare, openResult, respond, abandon
 ghost use Rattle.gateway.specs.Registry.{setup, setupAnswer};
 ghost use Rattle.gateway.specs.Gateway.{freshGateway};
 ghost use Rattle.gateway.specs.Calls.{admit, retire, onTicket, reporting, ofAdmit, ofRetire, ofStep, gatewayDoes};
-ghost use Rattle.results.specs.Calls.{Changes, ofTicket, outcomeOf, problemType, setupResult, admitResult, stepResult, reportResult};
+ghost use Rattle.results.specs.Calls.{Changes, ticketResult, outcomeOf, problemType, setupResult, admitResult, stepResult, reportResult};
 use crate::outcome::NumberResult;
 use crate::outcome::Outcome;
 use exchange::Move;
@@ -47,50 +47,50 @@ pub struct ReportResult {
 }
 
 // The gateway that setup made, with the result.
-pub struct Fresh {
+pub struct SetupDone {
     pub gateway: Gateway,
     pub result: NumberResult,
 }
 
 // What a call changes of the gateway, with the result.
-pub struct Admitting {
+pub struct AdmitDone {
     pub change: Change,
     pub result: AdmitResult,
 }
 
-pub struct Stepping {
+pub struct StepDone {
     pub change: Change,
     pub result: NumberResult,
 }
 
-pub struct Closing {
+pub struct OutcomeDone {
     pub change: Change,
     pub result: Outcome,
 }
 
 // Setup: a fresh gateway of a key list and a cap, and the number of keys; on refusal the gateway without keys.
-pub fn setup(list: &[u8], cap: u64) -> Fresh
+pub fn setup(list: &[u8], cap: u64) -> SetupDone
     ensures { λ r. ⌜ (r .gateway ≡ freshGateway (now (list .entry)) cap)
         × (r .result ≡ setupResult (setupAnswer (setup (now (list .entry)) cap))) ⌝ }
 {
     let after = Gateway::setup(list, cap);
     let gateway = after.gateway;
     let answer = after.answer;
-    Fresh {
+    SetupDone {
         gateway,
         result: setup_result(answer),
     }
 }
 
 // Admit: counts the use, gives the next ticket and writes info at the front of its buffer.
-pub fn admit(gateway: Gateway, request: &[u8], info: &mut [u8]) -> Admitting
+pub fn admit(gateway: Gateway, request: &[u8], info: &mut [u8]) -> AdmitDone
     ensures { λ r. ⌜ Changes admitResult (admit (now (request .entry)) (now (info .entry)))
         gateway (r .change) (r .result) (now (info .exit)) ⌝ }
 {
     let done = gateway.admit(request, info);
     let change = done.change;
     let answer = done.answer;
-    Admitting {
+    AdmitDone {
         change,
         result: admit_result(answer),
     }
@@ -100,46 +100,46 @@ pub fn admit(gateway: Gateway, request: &[u8], info: &mut [u8]) -> Admitting
 pub fn step(
     gateway: Gateway,
     ticket: u64,
-    asks: Move,
+    kind: Move,
     enc: &[u8],
     nonce: &[u8],
     salt: &mut [u8],
-) -> Stepping
-    ensures { λ r. ⌜ Changes stepResult (onTicket ticket (step asks (now (enc .entry)) (now (nonce .entry)) (now (salt .entry))))
+) -> StepDone
+    ensures { λ r. ⌜ Changes stepResult (onTicket ticket (step kind (now (enc .entry)) (now (nonce .entry)) (now (salt .entry))))
         gateway (r .change) (r .result) (now (salt .exit)) ⌝ }
 {
-    let done = gateway.step_with(Ticket(ticket), asks, enc, nonce, salt);
+    let done = gateway.step_with(Ticket(ticket), kind, enc, nonce, salt);
     let change = done.change;
     let answer = done.answer;
-    Stepping {
+    StepDone {
         change,
         result: step_result(answer),
     }
 }
 
 // A call on a ticket that brings no bytes.
-fn bare_step(gateway: Gateway, ticket: u64, asks: Move) -> Stepping
-    ensures { λ r. ⌜ Changes stepResult (onTicket ticket (bare asks)) gateway (r .change) (r .result) [] ⌝ }
+fn bare_step(gateway: Gateway, ticket: u64, kind: Move) -> StepDone
+    ensures { λ r. ⌜ Changes stepResult (onTicket ticket (bare kind)) gateway (r .change) (r .result) [] ⌝ }
 {
-    let done = gateway.step(Ticket(ticket), asks);
+    let done = gateway.step(Ticket(ticket), kind);
     let change = done.change;
     let answer = done.answer;
-    Stepping {
+    StepDone {
         change,
         result: step_result(answer),
     }
 }
 
 // The same for a host that is told no number.
-fn bare_outcome(gateway: Gateway, ticket: u64, asks: Move) -> Closing
-    ensures { λ r. ⌜ Changes outcomeOf (onTicket ticket (bare asks)) gateway (r .change) (r .result) [] ⌝ }
+fn bare_outcome(gateway: Gateway, ticket: u64, kind: Move) -> OutcomeDone
+    ensures { λ r. ⌜ Changes outcomeOf (onTicket ticket (bare kind)) gateway (r .change) (r .result) [] ⌝ }
 {
-    let done = gateway.step(Ticket(ticket), asks);
+    let done = gateway.step(Ticket(ticket), kind);
     let change = done.change;
     let answer = done.answer;
     let result = step_result(answer);
     let outcome = result.outcome;
-    Closing {
+    OutcomeDone {
         change,
         result: outcome,
     }
@@ -147,7 +147,7 @@ fn bare_outcome(gateway: Gateway, ticket: u64, asks: Move) -> Closing
 
 // Open result: `success` is 0 where the host could not open the request, and any other number where it opened n bytes. The number is 1 where
 // the exchange is opened now.
-pub fn open(gateway: Gateway, ticket: u64, success: u8, n: u64) -> Stepping
+pub fn open(gateway: Gateway, ticket: u64, success: u8, n: u64) -> StepDone
     ensures { λ r. ⌜ Changes stepResult (onTicket ticket (openResult (not (eqb success 0)) n))
         gateway (r .change) (r .result) [] ⌝ }
 {
@@ -172,7 +172,7 @@ pub fn respond(
     nonce: &[u8],
     plain: u64,
     salt: &mut [u8],
-) -> Stepping
+) -> StepDone
     ensures { λ r. ⌜ Changes stepResult (onTicket ticket (respond (now (enc .entry)) (now (nonce .entry)) plain (now (salt .entry))))
         gateway (r .change) (r .result) (now (salt .exit)) ⌝ }
 {
@@ -180,20 +180,20 @@ pub fn respond(
 }
 
 // Abandon: closed, and no reply is sent.
-pub fn abandon(gateway: Gateway, ticket: u64) -> Closing
+pub fn abandon(gateway: Gateway, ticket: u64) -> OutcomeDone
     ensures { λ r. ⌜ Changes outcomeOf (onTicket ticket abandon) gateway (r .change) (r .result) [] ⌝ }
 {
     bare_outcome(gateway, ticket, Move::Abandon)
 }
 
 // Retire: later admissions refuse the key; pending exchanges go on.
-pub fn retire(gateway: Gateway, key_id: u8) -> Closing
+pub fn retire(gateway: Gateway, key_id: u8) -> OutcomeDone
     ensures { λ r. ⌜ Changes outcomeOf (retire «key_id») gateway (r .change) (r .result) [] ⌝ }
 {
     let done = gateway.retire(KeyId(key_id));
     let change = done.change;
     let answer = done.answer;
-    Closing {
+    OutcomeDone {
         change,
         result: retire_result(answer),
     }
@@ -269,7 +269,7 @@ fn problem(key_problem: bool) -> u8
 
 // What goes out for an answer to a call on a ticket, or why nothing does, and its number.
 fn step_result(answer: StepAnswer) -> NumberResult
-    ensures { λ r. ⌜ r ≡ ofTicket answer ⌝ }
+    ensures { λ r. ⌜ r ≡ ticketResult answer ⌝ }
 {
     match answer {
         StepAnswer::Opened => NumberResult::sent(0, 1),

@@ -1,6 +1,6 @@
 // What every answer begins with.
 ghost use mathlib.Core.Path.{_≡_};
-ghost use Rattle.results.specs.Outcome.{sends, refusedBy, sent, numbered, notNumbered, twoNumbered, notTwoNumbered};
+ghost use Rattle.results.specs.Outcome.{sends, refusedBy, sent, withNumber, refusedNumber, withTwoNumbers, refusedTwoNumbers};
 use wire::refusal::Refusal;
 
 // The refusal number, 0 where the call is accepted; the refusal's place; the HTTP status to send, 0 where nothing is sent; the
@@ -61,13 +61,13 @@ impl NumberResult {
     }
 
     pub(crate) fn of(number: usize) -> Self
-        ensures { λ r. ⌜ r ≡ numbered number ⌝ }
+        ensures { λ r. ⌜ r ≡ withNumber number ⌝ }
     {
         NumberResult::sent(0, number as u64)
     }
 
     pub(crate) fn refused(refusal: Refusal) -> Self
-        ensures { λ r. ⌜ r ≡ notNumbered refusal ⌝ }
+        ensures { λ r. ⌜ r ≡ refusedNumber refusal ⌝ }
     {
         let outcome = Outcome::refused(refusal);
         NumberResult { outcome, number: 0 }
@@ -84,7 +84,7 @@ pub struct TwoNumbersResult {
 
 impl TwoNumbersResult {
     pub(crate) fn of(first: usize, second: usize) -> Self
-        ensures { λ r. ⌜ r ≡ twoNumbered first second ⌝ }
+        ensures { λ r. ⌜ r ≡ withTwoNumbers first second ⌝ }
     {
         let outcome = Outcome::sends(0);
         TwoNumbersResult {
@@ -95,7 +95,7 @@ impl TwoNumbersResult {
     }
 
     pub(crate) fn refused(refusal: Refusal) -> Self
-        ensures { λ r. ⌜ r ≡ notTwoNumbered refusal ⌝ }
+        ensures { λ r. ⌜ r ≡ refusedTwoNumbers refusal ⌝ }
     {
         let outcome = Outcome::refused(refusal);
         TwoNumbersResult {

@@ -8,7 +8,7 @@ returns : tie.Need-returns
 returns c = cc
 
 returns-3 : tie.Need-returns-3
-returns-3 c = rw (c .before .before .asks2 .given .1) (c .response-holds .ensures)
+returns-3 c = rw (c .before .before .kind2 .given .1) (c .response-holds .ensures)
 
 pub lengths-hold-spec : {M : Type 1} → statement M
 lengths-hold-spec = tie.close (tie.spec (λ c. search needs) (λ c κs. search needs) (λ c. search needs) (λ c. search needs)

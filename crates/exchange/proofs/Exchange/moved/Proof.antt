@@ -27,10 +27,10 @@ passed c = c .before .before .before .before .before .before .before .before .be
 -- nothing is refused
 accepted : (c : tie.Else1)
     → let a = c .before .before .before .before .before .args in
-    Accepted (a .asks) (length (a .enc .now)) (length (a .nonce .now)) (length (a .salt .now)) (a .self)
+    Accepted (a .kind) (length (a .enc .now)) (length (a .nonce .now)) (length (a .salt .now)) (a .self)
 accepted c =
     let a = c .before .before .before .before .before .args in
-    accepted-by (a .asks) (length (a .enc .now)) (length (a .nonce .now)) (length (a .salt .now)) (a .self)
+    accepted-by (a .kind) (length (a .enc .now)) (length (a .nonce .now)) (length (a .salt .now)) (a .self)
     (rw (← c .before .refusal .ensures) (c .if1 .left))
 
 returns : tie.Need-returns

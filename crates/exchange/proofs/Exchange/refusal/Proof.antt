@@ -14,7 +14,7 @@ use Rattle.exchange.proofs.Exchange.refusal.Tie as tie
 -- pending, allowed and of the right lengths: what is left to test is the room
 by-room : (c : tie.Else3)
     → let a = c .before .before .before .before .before .before .args in
-    refusalBy (a .asks) (a .enc) (a .nonce) (a .room) (a .self) ≡ (14 when ltb (a .room) (a .enc + a .nonce) otherwise 0)
+    refusalBy (a .kind) (a .enc) (a .nonce) (a .room) (a .self) ≡ (14 when ltb (a .room) (a .enc + a .nonce) otherwise 0)
 unfolding refusalBy
 by-room c =
     let allowed = c .before .before in

@@ -14,7 +14,7 @@ returns c =
     let move = c .before .before .before .before in
     let find = move .before .before .before in
     let a = find .before .before .before .before .before .args in
-    let call = step (a .asks) (a .enc .now) (a .nonce .now) (a .salt .now) in
+    let call = step (a .kind) (a .enc .now) (a .nonce .now) (a .salt .now) in
     let moved = move .moved .ensures in
     let done = stepped-by (a .self) (a .ticket .0) call _ (find .find .ensures) (moved .1 .0) (moved .0) (c .exchange-at .ensures) in
     (done .0, (done .1 .0, (done .1 .1, moved .1 .1 ∙ ap (buffer call) (find .find .ensures .1))))

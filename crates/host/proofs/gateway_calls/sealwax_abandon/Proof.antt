@@ -4,7 +4,7 @@ use Rattle.gateway.specs.Calls.{onTicket}
 use Rattle.results.specs.Calls.{outcomeOf}
 use Rattle.host.proofs.Exported.{law, u64, [], _∷_}
 use Rattle.results.proofs.outcome.Outcome as Result
-use Rattle.results.proofs.gateway_calls.Closing as Done
+use Rattle.results.proofs.gateway_calls.OutcomeDone as Done
 use Rattle.results.proofs.gateway_calls.abandon as step
 use Rattle.host.proofs.gateway_calls.sealwax_abandon as export
 

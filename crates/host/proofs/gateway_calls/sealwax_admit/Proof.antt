@@ -3,7 +3,7 @@ use Rattle.gateway.specs.Calls.{admit}
 use Rattle.results.specs.Calls.{admitResult}
 use Rattle.host.proofs.Exported.{law, buffer, bytes, [], _∷_}
 use Rattle.results.proofs.gateway_calls.AdmitResult as Result
-use Rattle.results.proofs.gateway_calls.Admitting as Done
+use Rattle.results.proofs.gateway_calls.AdmitDone as Done
 use Rattle.results.proofs.gateway_calls.admit as step
 use Rattle.host.proofs.gateway_calls.sealwax_admit as export
 

@@ -6,7 +6,7 @@ use Rattle.gateway.specs.Calls.{onTicket}
 use Rattle.results.specs.Calls.{stepResult}
 use Rattle.host.proofs.Exported.{law, u64, u8, [], _∷_}
 use Rattle.results.proofs.outcome.NumberResult as Result
-use Rattle.results.proofs.gateway_calls.Stepping as Done
+use Rattle.results.proofs.gateway_calls.StepDone as Done
 use Rattle.results.proofs.gateway_calls.open as step
 use Rattle.host.proofs.gateway_calls.sealwax_open as export
 

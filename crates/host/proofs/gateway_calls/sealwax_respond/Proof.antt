@@ -4,7 +4,7 @@ use Rattle.gateway.specs.Calls.{onTicket}
 use Rattle.results.specs.Calls.{stepResult}
 use Rattle.host.proofs.Exported.{law, buffer, bytes, u64, [], _∷_}
 use Rattle.results.proofs.outcome.NumberResult as Result
-use Rattle.results.proofs.gateway_calls.Stepping as Done
+use Rattle.results.proofs.gateway_calls.StepDone as Done
 use Rattle.results.proofs.gateway_calls.respond as step
 use Rattle.host.proofs.gateway_calls.sealwax_respond as export
 

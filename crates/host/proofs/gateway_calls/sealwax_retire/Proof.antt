@@ -3,7 +3,7 @@ use Rattle.gateway.specs.Calls.{retire}
 use Rattle.results.specs.Calls.{outcomeOf}
 use Rattle.host.proofs.Exported.{law, u8, [], _∷_}
 use Rattle.results.proofs.outcome.Outcome as Result
-use Rattle.results.proofs.gateway_calls.Closing as Done
+use Rattle.results.proofs.gateway_calls.OutcomeDone as Done
 use Rattle.results.proofs.gateway_calls.retire as step
 use Rattle.host.proofs.gateway_calls.sealwax_retire as export
 

@@ -44,10 +44,10 @@ use Rattle.gateway.specs.Registry.{setup, setupAnswer}
 use Rattle.gateway.specs.Gateway.{freshGateway}
 use Rattle.gateway.proofs.Gateway as gateway
 use Rattle.results.specs.Calls.{setupResult}
-use Rattle.results.specs.declared.gateway_calls.Fresh.{Fresh}
+use Rattle.results.specs.declared.gateway_calls.SetupDone.{SetupDone}
 use Rattle.host.proofs.Parameters.{Parameter, bytes, u64, types-of, slots, kept, rows, spelled, told, valued, values, typed}
 use Rattle.host.proofs.Walking.{given-up, given-up-go, returned, framed, proved}
-use Rattle.results.proofs.gateway_calls.Fresh as fresh
+use Rattle.results.proofs.gateway_calls.SetupDone as fresh
 use Rattle.results.proofs.outcome.NumberResult as result
 use Rattle.results.proofs.gateway_calls.setup as step
 use Rattle.host.proofs.gateway_calls.sealwax_setup as export
@@ -87,7 +87,7 @@ module _ {M : Type 1} (𝓤 : URA M) (H : Heap 𝓤) (A : Atoms 𝓤) (W : Given
     Post = walkOf 𝓤 H A export.ended stayed (export.clauses 𝓤 H A at-mem run) .post ((κs, qs, tt, a, at), tt)
 
     -- what `gateway_calls::setup` ensures
-    abbrev Said : Fresh → Type 0
+    abbrev Said : SetupDone → Type 0
     Said r = (r .gateway ≡ freshGateway (a .1 .0 .now) (a .1 .1 .0)) × (r .result ≡ setupResult (setupAnswer (setup (a .1 .0 .now) (a .1 .1 .0))))
 
     abbrev to-step : Step .Ghost
@@ -96,7 +96,7 @@ module _ {M : Type 1} (𝓤 : URA M) (H : Heap 𝓤) (A : Atoms 𝓤) (W : Given
     goes-step : ent 𝓤 (⋆ 𝓤 H A (raw Tokens ∷ ‵ (owns (rows 2 κs 1 ps) (a .1) (at .1)) ∷ [])) (Step .pre to-step)
     goes-step = qed W (raw Tokens ∷ ‵ (owns (rows 2 κs 1 ps) (a .1) (at .1)) ∷ []) ∵ join ! $ frame ! $ by ! (id⊢ 𝓤 (emp 𝓤))
 
-    exits : (r : Fresh) → Is result.the-row (r .result) (structs.vals result.the-type result.Laws.the-laws (r .result)) → Said r
+    exits : (r : SetupDone) → Is result.the-row (r .result) (structs.vals result.the-type result.Laws.the-laws (r .result)) → Said r
         → ent 𝓤 (⋆ 𝓤 H A (‵ (fobs (a .0 .name) (gateway.the-row .coded .code (r .gateway)))
         ∷ ‵ (fbor (κs .0) (Body (mem gateway.the-row) b o (a .0 .name)))
         ∷ ‵ (flft (κs .0) (qs .0)) ∷ raw Tokens ∷ [])) (Post (structs.val result.the-type result.Laws.the-laws (r .result)))

@@ -11,7 +11,7 @@ use Rattle.wire.proofs.Numbers.{unless-refused}
 use Rattle.wire.proofs.Writes.{front-first}
 use Rattle.algorithms.specs.Sizes.{knownAead}
 use Rattle.results.specs.Client.{exporterRefusal}
-use Rattle.results.specs.Outcome.{notTwoNumbered}
+use Rattle.results.specs.Outcome.{refusedTwoNumbers}
 use Rattle.results.proofs.Exporter.{exporter-refused, exporter-accepted}
 use borrow.Author.Needs.{needs}
 use Rattle.results.proofs.client_calls.exporter.Statement.{statement}
@@ -30,7 +30,7 @@ returns c =
     let number = c .before .before .before .exporter-refusal .result in
     let refuses = c .before .before .if1 .taken in
     rw (← c .before .before .before .exporter-refusal .ensures)
-    (c .refused .ensures ∙ ap notTwoNumbered (c .before .of .ensures) ∙ exporter-refused (a .aead) number refuses, unless-refused number _ _ refuses)
+    (c .refused .ensures ∙ ap refusedTwoNumbers (c .before .of .ensures) ∙ exporter-refused (a .aead) number refuses, unless-refused number _ _ refuses)
 
 secret-length-requires : tie.Need-secret-length-requires
 secret-length-requires c κs = accepted (c .before .before .before .before .before .before) .0
