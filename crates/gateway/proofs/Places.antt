@@ -1,4 +1,4 @@
--- When an exchange has a ticket, what a search for it finds, how many are pending, and what a call on a ticket gives.
+-- When an exchange has a ticket, what a search for it finds, and how many are pending.
 -- Assumes nothing.
 use mathlib.Core.Path.{_≡_, sym, ap, _∙_}
 use mathlib.Core.Bool.{true, false, not}
@@ -14,13 +14,7 @@ use Rattle.wire.proofs.Booleans.{either, and-false, true-or-false}
 use Rattle.wire.proofs.Matches.{first-at, first-none}
 use Rattle.exchange.specs.declared.Exchange.{Exchange}
 use Rattle.exchange.specs.Exchange.{free, isFree, hasTicket, exchangeOf}
-use Rattle.exchange.specs.declared.StepAnswer.{StepAnswer}
-use Rattle.exchange.specs.Steps.{Step, after, answer}
-use Rattle.gateway.specs.declared.Gateway.{Gateway}
-use Rattle.gateway.specs.declared.change.Change.{Change}
-use Rattle.gateway.specs.Gateway.{tableSize, pendingIn, withExchange}
-use Rattle.gateway.specs.Change.{Fits, changed}
-use Rattle.gateway.specs.Calls.{onTicket, ofStep, gatewayDoes}
+use Rattle.gateway.specs.Gateway.{tableSize, pendingIn}
 
 -- another ticket
 pub other-ticket : (ticket : ℕ) (e : Exchange) → (e .ticket .0 ≡ ticket → ⊥) → hasTicket ticket e ≡ false
@@ -59,13 +53,3 @@ pub pending-more : (e : Exchange) (es : List Exchange)
     → length (pendingIn (e ∷ es)) ≡ length (pendingIn (e ∷ [])) + length (pendingIn es)
 unfolding pendingIn
 pending-more e es = either (isFree e) (λ f. rw f (sym (zero-add (length (pendingIn es))))) (λ f. rw f (omega arith))
-
--- a call on a ticket, by what it found, what it left and told of that, and the change that it hands on
-pub stepped-by : (g : Gateway) (ticket : ℕ) (step : Step) (change : Change) {place : ℕ} {was left : Exchange} {told : StepAnswer}
-    → (place ≡ firstPlace (hasTicket ticket) (g .table)) × (was ≡ exchangeOf ticket (g .table))
-    → left ≡ after step was → told ≡ answer step was
-    → Fits change × (changed change g ≡ withExchange place left g)
-    → Fits change × ((changed change g ≡ gatewayDoes g (onTicket ticket step) .state)
-    × (ofStep told ≡ gatewayDoes g (onTicket ticket step) .answer))
-unfolding gatewayDoes
-stepped-by g ticket step change found l t c = (c .0, (c .1 ∙ rw (l, found .1, found .0), rw (t, found .1)))

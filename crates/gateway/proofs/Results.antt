@@ -1,12 +1,15 @@
--- What admit and retire give, by the numbers and values that their code computes on the way.
+-- What the calls give, by the numbers and values that their code computes on the way.
 -- Assumes nothing.
 use mathlib.Core.Path.{_≡_, refl, sym, ap, _∙_}
 use mathlib.Core.List.{List}
 use Prim.Native.Nat.{ℕ, zero, suc, _≤_, _<_}
 use native.Mathlib.Omega.{arith}
 use lib.Dec.{leb, ltb}
-use lib.ListN.{length, getD, take, replicate, length-append, length-take}
-use borrow.Author.Tests.{leb-false, ltb-false}
+use lib.ListN.{length, getD, set, take, replicate, length-append, length-take}
+use lib.Seq.{set-out}
+use borrow.Author.Tests.{leb-true, leb-false, ltb-false}
+use Rattle.wire.proofs.Booleans.{either}
+use Rattle.wire.specs.Search.{firstPlace}
 use Rattle.wire.specs.Refusals.{_when_otherwise_, refused, unlessRefused}
 use Rattle.wire.specs.Bytes.{withFront, overwritten}
 use Rattle.wire.specs.Texts.{headLength, infoLength, infoBytes, requestLabel}
@@ -19,7 +22,9 @@ use Rattle.exchange.specs.declared.Ticket.{Ticket}
 use Rattle.request.specs.declared.Request.{Request}
 use Rattle.request.specs.declared.Parsed.{Parsed}
 use Rattle.request.specs.Request.{requestRefusal, fieldsOf, noFields, parsed, infoOf}
-use Rattle.exchange.specs.Exchange.{free, isFree, asked}
+use Rattle.exchange.specs.declared.StepAnswer.{StepAnswer}
+use Rattle.exchange.specs.Exchange.{free, isFree, asked, hasTicket, exchangeOf}
+use Rattle.exchange.specs.Steps.{Step, after, answer}
 use Rattle.request.proofs.Requests.{accepted-request, info-of}
 use Rattle.keys.specs.declared.KeyState.{KeyState}
 use Rattle.keys.specs.Keys.{Key, placeOfKey, keyRefusal, retireRefusal}
@@ -33,10 +38,10 @@ use Rattle.gateway.specs.declared.admission.AdmitRefusal.{AdmitRefusal}
 use Rattle.gateway.specs.declared.AdmitAnswer.{AdmitAnswer}
 use Rattle.gateway.specs.declared.RetireAnswer.{RetireAnswer}
 use Rattle.gateway.specs.Registry.{_orElse_, roomRefusal, admitRefusal, refusalOfAdmit, admission, admitAnswer, retireAnswer}
-use Rattle.gateway.specs.Gateway.{tableSize, isFull, freePlace, nextTicket, admitted, retiredGateway}
-use Rattle.gateway.specs.Change.{changed}
+use Rattle.gateway.specs.Gateway.{tableSize, isFull, freePlace, nextTicket, admitted, retiredGateway, withExchange}
+use Rattle.gateway.specs.Change.{changed, exchangeAt, Fits}
 use Rattle.gateway.proofs.Deciding.{none-of-both}
-use Rattle.gateway.specs.Calls.{admit, retire, ofAdmit, ofRetire, gatewayDoes, admitNumber, retireNumber}
+use Rattle.gateway.specs.Calls.{admit, retire, onTicket, ofAdmit, ofRetire, ofStep, gatewayDoes, admitNumber, retireNumber}
 
 -- the answers of a refused retire and of a refused admit
 retire-refused : (n : ℕ) → (n ≡ 0 → ⊥) → RetireAnswer.Refused (refused n) ≡ retireAnswer n
@@ -46,6 +51,31 @@ retire-refused (suc n) h = refl
 admit-refused : (n ticket : ℕ) (request : List ℕ) → (n ≡ 0 → ⊥) → AdmitAnswer.Refused (refusalOfAdmit n) ≡ admitAnswer n ticket request
 admit-refused zero ticket request h = absurd (h refl)
 admit-refused (suc n) ticket request h = refl
+
+-- an exchange put at a place, over a change that changes nothing
+put-at : (g : Gateway) → length (g .table) ≡ tableSize → (change : Change) → Fits change × (changed change g ≡ g) → (place : ℕ) (e : Exchange)
+    → Fits (exchangeAt place e change) × (changed (exchangeAt place e change) g ≡ withExchange place e g)
+unfolding exchangeAt
+put-at g size change same place e =
+    either (leb tableSize place)
+    (λ out. rw out (same .0, same .1 ∙ rw (set-out (g .table) place e (omega (arith, leb-true tableSize place out)))))
+    (λ inside. rw inside (
+      (same .0 .0, leb-false tableSize place inside),
+      ap (λ (h : Gateway). record { «last_ticket» = h .«last_ticket»; cap = h .cap; keys = h .keys; table = set (g .table) place e }) (same .1),
+    ))
+
+-- a call on a ticket, by what was found, the change that it makes of one that changes nothing, and the answer
+pub stepped-by : (g : Gateway) → length (g .table) ≡ tableSize → (ticket : ℕ) (step : Step) (nothing : Change) {change : Change} {told : StepAnswer}
+    {place : ℕ} {was : Exchange} → Fits nothing × (changed nothing g ≡ g)
+    → (place ≡ firstPlace (hasTicket ticket) (g .table)) × (was ≡ exchangeOf ticket (g .table))
+    → change ≡ exchangeAt place (after step was) nothing
+    → told ≡ answer step was
+    → Fits change × ((changed change g ≡ gatewayDoes g (onTicket ticket step) .state)
+    × (ofStep told ≡ gatewayDoes g (onTicket ticket step) .answer))
+unfolding gatewayDoes
+stepped-by g size ticket step nothing same found is t =
+    let put = put-at g size nothing same (firstPlace (hasTicket ticket) (g .table)) (after step (exchangeOf ticket (g .table))) in
+    (rw (is, found .1, found .0) (put .0), (rw (is, found .1, found .0) (put .1), rw (t, found .1)))
 
 -- a change with another key
 abbrev withKey : ℕ → KeyState → Change → Change

@@ -2,11 +2,14 @@
 // memory writes only what changes.
 ghost use mathlib.Core.Path.{_≡_};
 ghost use lib.ListN.{set};
-ghost use Rattle.gateway.specs.Gateway.{withExchange};
-ghost use Rattle.gateway.specs.Change.{changed, Fits};
+ghost use Rattle.exchange.specs.Steps.{step, after, answer, buffer};
+ghost use Rattle.gateway.specs.Change.{changed, exchangeAt, Fits};
 use crate::Gateway;
+use crate::StepChange;
+use crate::table::Found;
 use crate::table::TABLE_SIZE;
 use exchange::Exchange;
+use exchange::Move;
 use exchange::Ticket;
 use keylist::check::MOST_CONFIGURATIONS;
 use keys::KeyState;
@@ -38,17 +41,42 @@ pub(crate) fn nothing(gateway: Gateway) -> Change
     }
 }
 
-// An exchange at a place of the table; nothing where there is no such place.
-pub(crate) fn exchange_at(gateway: Gateway, place: usize, exchange: Exchange) -> Change
-    ensures fits { λ r. ⌜ Fits r ⌝ }
-    ensures gateway { λ r. ⌜ changed r gateway ≡ withExchange place exchange gateway ⌝ }
+// With an exchange at a place of the table; as it is where there is no such place.
+fn exchange_at(change: Change, place: usize, exchange: Exchange) -> Change
+    ensures { λ r. ⌜ r ≡ exchangeAt place exchange change ⌝ }
 {
-    let mut change = nothing(gateway);
-    if place < TABLE_SIZE {
-        change.place = place;
-        change.exchange = exchange;
+    let mut next = change;
+    if TABLE_SIZE <= place {
+        return next;
     }
-    change
+    next.place = place;
+    next.exchange = exchange;
+    next
+}
+
+// What a call on a ticket changes, with the answer: it is given the change of nothing, and what the search found. It is not given the gateway or the
+// table, since it is too large to be inlined where it is called, and would be given a copy.
+pub(crate) fn step(
+    nothing: Change,
+    found: Found,
+    kind: Move,
+    enc: &[u8],
+    nonce: &[u8],
+    salt: &mut [u8],
+) -> StepChange
+    ensures change { λ r. ⌜ r .change ≡ exchangeAt (found .place)
+        (after (step kind (now (enc .entry)) (now (nonce .entry)) (now (salt .entry))) (found .exchange)) nothing ⌝ }
+    ensures answer { λ r. ⌜ r .answer ≡ answer (step kind (now (enc .entry)) (now (nonce .entry)) (now (salt .entry))) (found .exchange) ⌝ }
+    ensures buffer { λ r. ⌜ now (salt .exit) ≡ buffer (step kind (now (enc .entry)) (now (nonce .entry)) (now (salt .entry))) (found .exchange) ⌝ }
+{
+    let pending = found.exchange;
+    let moved = pending.moved(kind, enc, nonce, salt);
+    let exchange = moved.exchange;
+    let answer = moved.answer;
+    StepChange {
+        change: exchange_at(nothing, found.place, exchange),
+        answer,
+    }
 }
 
 // The gateway after a change; what has no place in it is left out.

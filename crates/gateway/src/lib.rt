@@ -13,7 +13,6 @@ use crate::admission::Admission;
 use crate::admission::AdmitRefusal;
 use crate::admission::next_ticket;
 use crate::change::Change;
-use crate::change::exchange_at;
 use crate::change::nothing;
 use crate::table::TABLE_SIZE;
 use crate::table::count_pending;
@@ -165,7 +164,15 @@ impl Gateway {
         ensures answer { λ r. ⌜ ofStep (r .answer) ≡ gatewayDoes self (onTicket (ticket .0) (bare kind)) .answer ⌝ }
     {
         let mut salt = [0u8; 0];
-        self.step_with(ticket, kind, &[], &[], &mut salt)
+        let table = self.table;
+        change::step(
+            nothing(self),
+            find(table, ticket),
+            kind,
+            &[],
+            &[],
+            &mut salt,
+        )
     }
 
     // A call on a ticket with the bytes that it brings, as respond does: enc and nonce are written at the front of the salt buffer.
@@ -186,15 +193,7 @@ impl Gateway {
             (onTicket (ticket .0) (step kind (now (enc .entry)) (now (nonce .entry)) (now (salt .entry)))) .buffer ⌝ }
     {
         let table = self.table;
-        let found = find(table, ticket);
-        let pending = found.exchange;
-        let moved = pending.moved(kind, enc, nonce, salt);
-        let exchange = moved.exchange;
-        let answer = moved.answer;
-        StepChange {
-            change: exchange_at(self, found.place, exchange),
-            answer,
-        }
+        change::step(nothing(self), find(table, ticket), kind, enc, nonce, salt)
     }
 
     // Retire: later admissions refuse the key; pending exchanges go on.
