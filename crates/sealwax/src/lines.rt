@@ -1,335 +1,245 @@
-// A line as a call: its first word names the call, the others are its arguments.
-use crate::words::Part;
-use crate::words::behind;
-use crate::words::is_end;
-use crate::words::is_word;
+// What a line says: the name of a call, its numbers and its bytes.
+use crate::words::NO_WORD;
+use crate::words::Word;
 use crate::words::take_bytes;
-use crate::words::take_code;
 use crate::words::take_number;
-use crate::words::take_numbers;
-use algorithms::Aead;
-use exchange::Ticket;
-use keylist::KeyId;
-use replay::MOST_ROOM;
-use replay::client_side;
-use replay::client_side::HeadCall;
-use replay::gateway_side;
+use crate::words::take_text;
 
-// The most bytes of a request, a response, a list, an enc or a nonce.
-const MOST_BYTES: usize = 70000;
+// The names of the calls, as `take_text` has their values.
+pub(crate) const SETUP: u64 = 0x7365747570;
 
-// The largest key id.
-pub(crate) const MOST_ID: u64 = 255;
+pub(crate) const ADMIT: u64 = 0x61646d6974;
 
-// What a line says. A call's bytes are parts of the line, and the numbers of `choose` parts of a buffer beside it.
-pub(crate) enum Said {
-    ToGateway(gateway_side::Call, Part, Part),
-    ToClient(client_side::Call, Part, Part, Part),
-    // `write`, whose configurations are read as they are gathered.
-    ToWriter,
-    NoCall,
-    // An empty line, or a comment.
-    Nothing,
-}
+pub(crate) const OPEN: u64 = 0x6f70656e;
 
-// The calls, by number; 0 where a word names none.
-const SETUP: u8 = 1;
+pub(crate) const RESPOND: u64 = 0x726573706f6e64;
 
-const ADMIT: u8 = 2;
+pub(crate) const ABANDON: u64 = 0x6162616e646f6e;
 
-const OPEN: u8 = 3;
+pub(crate) const RETIRE: u64 = 0x726574697265;
 
-const RESPOND: u8 = 4;
+pub(crate) const REPORT: u64 = 0x7265706f7274;
 
-const ABANDON: u8 = 5;
+pub(crate) const CHECK: u64 = 0x636865636b;
 
-const RETIRE: u8 = 6;
+pub(crate) const KEY: u64 = 0x6b6579;
 
-const REPORT: u8 = 7;
+pub(crate) const CHOOSE: u64 = 0x63686f6f7365;
 
-const CHECK: u8 = 8;
+pub(crate) const HEAD: u64 = 0x68656164;
 
-const KEY: u8 = 9;
+pub(crate) const SPLIT: u64 = 0x73706c6974;
 
-const CHOOSE: u8 = 10;
+pub(crate) const EXPORTER: u64 = 0x6578706f72746572;
 
-const HEAD: u8 = 11;
+pub(crate) const WRITE: u64 = 0x7772697465;
 
-const SPLIT: u8 = 12;
+// What stands for the name of a line that is no call, and of an empty line or a comment.
+pub(crate) const NO_CALL: u64 = 0;
 
-const WRITE: u8 = 13;
+pub(crate) const NOTHING: u64 = 1;
 
-// The call that the line's first word names.
-fn named(line: &[u8]) -> u8 {
-    if is_word(line, 0, b"admit") {
-        return ADMIT;
-    }
-    if is_word(line, 0, b"open") {
-        return OPEN;
-    }
-    if is_word(line, 0, b"respond") {
-        return RESPOND;
-    }
-    if is_word(line, 0, b"abandon") {
-        return ABANDON;
-    }
-    if is_word(line, 0, b"setup") {
-        return SETUP;
-    }
-    if is_word(line, 0, b"retire") {
-        return RETIRE;
-    }
-    if is_word(line, 0, b"report") {
-        return REPORT;
-    }
-    named_on_client_side(line)
-}
+// The kinds of words. Numbers: of 64 bits, a key id, a room, the list writer's room.
+const NUMBER: u32 = 1;
 
-fn named_on_client_side(line: &[u8]) -> u8 {
-    if is_word(line, 0, b"check") {
-        return CHECK;
-    }
-    if is_word(line, 0, b"key") {
-        return KEY;
-    }
-    if is_word(line, 0, b"choose") {
-        return CHOOSE;
-    }
-    if is_word(line, 0, b"head") {
-        return HEAD;
-    }
-    if is_word(line, 0, b"split") {
-        return SPLIT;
-    }
-    if is_word(line, 0, b"write") {
-        return WRITE;
-    }
-    0
-}
+const ID: u32 = 2;
 
-// Reads a line that is neither empty nor a comment.
-pub(crate) fn read(line: &mut [u8], numbers: &mut [u16]) -> Said {
-    let name = named(line);
-    let at = behind(line, 0);
+const ROOM: u32 = 3;
+
+const LIST_ROOM: u32 = 4;
+
+// How opening went, as `ok` or `failed`.
+const RESULT: u32 = 5;
+
+// A KEM, KDF or AEAD number, in four hexadecimal digits.
+pub(crate) const CODE: u32 = 6;
+
+// Bytes: a request, a response, a list, an enc or a nonce; a public key; numbers of two bytes each; a key's pairs of these.
+const BYTES: u32 = 8;
+
+const KEY_BYTES: u32 = 9;
+
+pub(crate) const CODES: u32 = 10;
+
+pub(crate) const KEY_CODES: u32 = 11;
+
+// The kinds of a call's words as the digits of a number to the base 16, the first word's last, behind a 1.
+fn kinds_of(name: u64) -> u32 {
     match name {
-        SETUP => setup(line, at),
-        ADMIT => admit(line, at),
-        OPEN => open_result(line, at),
-        RESPOND => respond(line, at),
-        ABANDON => abandon(line, at),
-        RETIRE => retire(line, at),
-        REPORT => report(line, at),
-        CHECK => check(line, at),
-        KEY => key(line, at),
-        CHOOSE => choose(line, at, numbers),
-        HEAD => head(line, at),
-        SPLIT => split(line, at),
-        WRITE => Said::ToWriter,
-        _ => Said::NoCall,
+        SETUP => 0x181,
+        ADMIT => 0x138,
+        OPEN => 0x1151,
+        RESPOND => 0x131881,
+        ABANDON => 0x11,
+        RETIRE => 0x12,
+        CHECK => 0x18,
+        KEY => 0x128,
+        CHOOSE => 0x1aa8,
+        HEAD => 0x13386662,
+        SPLIT => 0x186,
+        EXPORTER => 0x136,
+        WRITE => 0x14,
+        _ => 0x1,
     }
 }
 
-fn setup(line: &mut [u8], at: usize) -> Said {
-    let cap = take_number(line, at, u64::MAX);
-    let list = take_bytes(line, cap.next, cap.next, MOST_BYTES);
-    if !is_end(line, list.next) {
-        return Said::NoCall;
-    }
-    Said::ToGateway(
-        gateway_side::Call::Setup(cap.value),
-        list.part(),
-        Part::none(),
-    )
-}
+// The kinds of the words of a configuration, as many of which as there are stand behind those of `write`.
+pub(crate) const CONFIGURATION: u32 = 0x1b962;
 
-fn admit(line: &mut [u8], at: usize) -> Said {
-    let request = take_bytes(line, at, at, MOST_BYTES);
-    let room = take_number(line, request.next, MOST_ROOM as u64);
-    if !is_end(line, room.next) {
-        return Said::NoCall;
-    }
-    Said::ToGateway(
-        gateway_side::Call::Admit(room.value as usize),
-        request.part(),
-        Part::none(),
-    )
-}
-
-fn open_result(line: &[u8], at: usize) -> Said {
-    let ticket = take_number(line, at, u64::MAX);
-    let n = take_number(line, behind(line, ticket.next), u64::MAX);
-    if !is_end(line, n.next) {
-        return Said::NoCall;
-    }
-    if is_word(line, ticket.next, b"ok") {
-        return opening(ticket.value, true, n.value);
-    }
-    if is_word(line, ticket.next, b"failed") {
-        return opening(ticket.value, false, n.value);
-    }
-    Said::NoCall
-}
-
-fn opening(ticket: u64, success: bool, n: u64) -> Said {
-    Said::ToGateway(
-        gateway_side::Call::Open(Ticket(ticket), success, n),
-        Part::none(),
-        Part::none(),
-    )
-}
-
-fn respond(line: &mut [u8], at: usize) -> Said {
-    let ticket = take_number(line, at, u64::MAX);
-    let enc = take_bytes(line, ticket.next, ticket.next, MOST_BYTES);
-    let nonce = take_bytes(line, enc.next, enc.next, MOST_BYTES);
-    let plain = take_number(line, nonce.next, u64::MAX);
-    let room = take_number(line, plain.next, MOST_ROOM as u64);
-    if !is_end(line, room.next) {
-        return Said::NoCall;
-    }
-    Said::ToGateway(
-        gateway_side::Call::Respond(Ticket(ticket.value), plain.value, room.value as usize),
-        enc.part(),
-        nonce.part(),
-    )
-}
-
-fn abandon(line: &[u8], at: usize) -> Said {
-    let ticket = take_number(line, at, u64::MAX);
-    if !is_end(line, ticket.next) {
-        return Said::NoCall;
-    }
-    Said::ToGateway(
-        gateway_side::Call::Abandon(Ticket(ticket.value)),
-        Part::none(),
-        Part::none(),
-    )
-}
-
-fn retire(line: &[u8], at: usize) -> Said {
-    let id = take_number(line, at, MOST_ID);
-    if !is_end(line, id.next) {
-        return Said::NoCall;
-    }
-    Said::ToGateway(
-        gateway_side::Call::Retire(KeyId((id.value % 256) as u8)),
-        Part::none(),
-        Part::none(),
-    )
-}
-
-fn report(line: &[u8], at: usize) -> Said {
-    if !is_end(line, at) {
-        return Said::NoCall;
-    }
-    Said::ToGateway(gateway_side::Call::Report, Part::none(), Part::none())
-}
-
-fn check(line: &mut [u8], at: usize) -> Said {
-    let list = take_bytes(line, at, at, MOST_BYTES);
-    if !is_end(line, list.next) {
-        return Said::NoCall;
-    }
-    Said::ToClient(
-        client_side::Call::Check,
-        list.part(),
-        Part::none(),
-        Part::none(),
-    )
-}
-
-fn key(line: &mut [u8], at: usize) -> Said {
-    let list = take_bytes(line, at, at, MOST_BYTES);
-    let id = take_number(line, list.next, MOST_ID);
-    if !is_end(line, id.next) {
-        return Said::NoCall;
-    }
-    Said::ToClient(
-        client_side::Call::Key(KeyId((id.value % 256) as u8)),
-        list.part(),
-        Part::none(),
-        Part::none(),
-    )
-}
-
-fn choose(line: &mut [u8], at: usize, numbers: &mut [u16]) -> Said {
-    let list = take_bytes(line, at, at, MOST_BYTES);
-    let kems = take_numbers(line, list.next, numbers, 0, numbers.len());
-    let pairs = take_numbers(line, kems.next, numbers, kems.end, numbers.len());
-    if !is_end(line, pairs.next) {
-        return Said::NoCall;
-    }
-    Said::ToClient(
-        client_side::Call::Choose,
-        list.part(),
-        kems.part(),
-        pairs.part(),
-    )
-}
-
-fn head(line: &mut [u8], at: usize) -> Said {
-    let front = take_front(line, at);
-    let enc = take_bytes(line, front.next, front.next, MOST_BYTES);
-    let head_room = take_number(line, enc.next, MOST_ROOM as u64);
-    let info_room = take_number(line, head_room.next, MOST_ROOM as u64);
-    if !is_end(line, info_room.next) {
-        return Said::NoCall;
-    }
-    Said::ToClient(
-        front.with_rooms(head_room.value as usize, info_room.value as usize),
-        enc.part(),
-        Part::none(),
-        Part::none(),
-    )
-}
-
-// The words of `head` before enc, and where the next word starts.
-struct Front {
-    key_id: KeyId,
-    kem: u16,
-    kdf: u16,
-    aead: u16,
-    next: usize,
-}
-
-fn take_front(line: &[u8], at: usize) -> Front {
-    let id = take_number(line, at, MOST_ID);
-    let kem = take_code(line, id.next);
-    let kdf = take_code(line, kem.next);
-    let aead = take_code(line, kdf.next);
-    Front {
-        key_id: KeyId((id.value % 256) as u8),
-        kem: kem.value,
-        kdf: kdf.value,
-        aead: aead.value,
-        next: aead.next,
+// The most that a word of a kind says: the largest number, or the most bytes.
+fn most_of(kind: u32) -> u64 {
+    match kind {
+        ID => 255,
+        ROOM => 256,
+        LIST_ROOM => 4096,
+        CODE => 2,
+        BYTES => 70000,
+        KEY_BYTES => 255,
+        KEY_CODES => 80,
+        _ => u64::MAX,
     }
 }
 
-impl Front {
-    fn with_rooms(self, head_room: usize, info_room: usize) -> client_side::Call {
-        let key_id = self.key_id;
-        client_side::Call::Head(HeadCall {
-            key_id,
-            kem: self.kem,
-            kdf: self.kdf,
-            aead: self.aead,
-            head_room,
-            info_room,
-        })
+// Takes a word of a kind.
+fn take(line: &mut [u8], at: usize, kind: u32) -> Word {
+    let most = most_of(kind);
+    match kind {
+        NUMBER | ID | ROOM | LIST_ROOM => take_number(line, at, most),
+        RESULT => take_result(line, at),
+        _ => take_bytes(line, at, kind, most),
     }
 }
 
-fn split(line: &mut [u8], at: usize) -> Said {
-    let aead = take_code(line, at);
-    let response = take_bytes(line, aead.next, aead.next, MOST_BYTES);
-    if !is_end(line, response.next) {
-        return Said::NoCall;
+// How opening went.
+pub(crate) const OK: u64 = 0x6f6b;
+
+const FAILED: u64 = 0x6661696c6564;
+
+fn take_result(line: &[u8], at: usize) -> Word {
+    let mut word = take_text(line, at);
+    word.next = next_of_result(word.value, word.next);
+    word
+}
+
+fn next_of_result(result: u64, next: usize) -> usize {
+    match result {
+        OK | FAILED => next,
+        _ => NO_WORD,
     }
-    Said::ToClient(
-        client_side::Call::Split(Aead(aead.value)),
-        response.part(),
-        Part::none(),
-        Part::none(),
-    )
+}
+
+// The name of a call, and what its words say: the numbers in order, and where the bytes lie in order. The next word starts at `next`.
+pub(crate) struct Line {
+    pub name: u64,
+    pub next: usize,
+    pub number_count: u64,
+    pub first: u64,
+    pub second: u64,
+    pub third: u64,
+    pub fourth: u64,
+    pub fifth: u64,
+    pub sixth: u64,
+    pub part_count: u64,
+    pub start: usize,
+    pub end: usize,
+    pub second_start: usize,
+    pub second_end: usize,
+    pub third_start: usize,
+    pub third_end: usize,
+}
+
+impl Line {
+    // A line without words.
+    pub(crate) fn new(name: u64, next: usize) -> Self {
+        Line {
+            name,
+            next,
+            number_count: 0,
+            first: 0,
+            second: 0,
+            third: 0,
+            fourth: 0,
+            fifth: 0,
+            sixth: 0,
+            part_count: 0,
+            start: 0,
+            end: 0,
+            second_start: 0,
+            second_end: 0,
+            third_start: 0,
+            third_end: 0,
+        }
+    }
+
+    fn with_number(mut self, value: u64) -> Self {
+        let count = self.number_count;
+        match count {
+            0 => self.first = value,
+            1 => self.second = value,
+            2 => self.third = value,
+            3 => self.fourth = value,
+            4 => self.fifth = value,
+            _ => self.sixth = value,
+        }
+        self.number_count = std::num::wrapping_add_u64(count, 1);
+        self
+    }
+
+    fn with_part(mut self, start: usize, end: usize) -> Self {
+        let count = self.part_count;
+        match count {
+            0 => {
+                self.start = start;
+                self.end = end;
+            }
+            1 => {
+                self.second_start = start;
+                self.second_end = end;
+            }
+            _ => {
+                self.third_start = start;
+                self.third_end = end;
+            }
+        }
+        self.part_count = std::num::wrapping_add_u64(count, 1);
+        self
+    }
+
+    // With one more word of a kind.
+    fn with(mut self, word: Word, kind: u32) -> Self {
+        self.next = word.next;
+        if kind < BYTES {
+            return self.with_number(word.value);
+        }
+        self.with_part(word.start, word.end)
+    }
+}
+
+// What the words from a place on say, of kinds.
+pub(crate) fn take_all(line: &mut [u8], at: usize, kinds: u32) -> Line {
+    let mut said = Line::new(NO_CALL, at);
+    let mut rest = kinds;
+    while 15 < rest {
+        let kind = rest % 16;
+        let word = take(line, said.next, kind);
+        said = said.with(word, kind);
+        rest = rest / 16;
+    }
+    said
+}
+
+// Reads the line that starts at a place of the buffer and ends where the buffer does, with a space.
+pub(crate) fn read(line: &mut [u8], at: usize) -> Line {
+    let name = take_text(line, at);
+    let mut said = take_all(line, name.next, kinds_of(name.value));
+    said.name = called(name.value, said.next == line.len());
+    said
+}
+
+// The name where its words are all that the line has. Behind those of `write` there may be more.
+fn called(name: u64, is_whole: bool) -> u64 {
+    if is_whole {
+        return name;
+    }
+    if name == WRITE { name } else { NO_CALL }
 }

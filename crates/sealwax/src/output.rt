@@ -1,55 +1,42 @@
-// Standard output, through a buffer.
+// Standard output, through a buffer: the answers that wait to be written stand at its front.
+use crate::text::put_byte;
 use libc::STDERR_FILENO;
 use libc::STDOUT_FILENO;
 
-// Behind the answers that wait in the buffer is `end`. Where `failed` holds, no more can be written.
-pub(crate) struct Output {
-    pub end: usize,
-    pub failed: bool,
+// The buffer has room for the longest answer, of `split`, behind as much as waits in it before a line.
+pub(crate) const OUTPUT_SIZE: usize = 262144;
+
+const MOST_WAITING: usize = 65536;
+
+pub(crate) type OutputBuffer = [u8; OUTPUT_SIZE];
+
+// What stands for the end of what waits where standard output cannot be written.
+pub(crate) const NO_OUTPUT: usize = usize::MAX;
+
+// Where what waits ends once a line is answered from a place up to an end: behind a newline, where it has an answer. Much that waits is written.
+pub(crate) fn ended(out: &mut OutputBuffer, at: usize, end: usize) -> usize {
+    if end == at {
+        return at;
+    }
+    let end = put_byte(out, end, b'\n');
+    if end < MOST_WAITING {
+        return end;
+    }
+    written(out, end)
 }
 
-impl Output {
-    pub(crate) fn new() -> Self {
-        Output {
-            end: 0,
-            failed: false,
-        }
+// Writes what waits, up to an end: 0, or NO_OUTPUT.
+pub(crate) fn written(bytes: &[u8], end: usize) -> usize {
+    let start = 0;
+    if bytes.len() < end {
+        return NO_OUTPUT;
     }
-
-    // With one more answer, which ends at a place.
-    pub(crate) fn up_to(self, end: usize) -> Self {
-        Output {
-            end,
-            failed: self.failed,
-        }
+    if io::write_all(STDOUT_FILENO, &bytes[start..end]) {
+        return 0;
     }
-
-    // With the answers written, where they fill the buffer up to a place or further.
-    pub(crate) fn flushed(self, bytes: &[u8], enough: usize) -> Self {
-        let start = 0;
-        let end = self.end;
-        if end < enough {
-            return self;
-        }
-        if bytes.len() < end {
-            return self;
-        }
-        if self.failed {
-            return Output {
-                end: 0,
-                failed: true,
-            };
-        }
-        let written = io::write_all(STDOUT_FILENO, &bytes[start..end]);
-        if !written {
-            io::write_all(
-                STDERR_FILENO,
-                b"sealwax: standard output cannot be written\n",
-            );
-        }
-        Output {
-            end: 0,
-            failed: !written,
-        }
-    }
+    io::write_all(
+        STDERR_FILENO,
+        b"sealwax: standard output cannot be written\n",
+    );
+    NO_OUTPUT
 }

@@ -1,382 +1,169 @@
-// The words of a line: taken one after the other, each from the place behind the one before.
-ghost use Prim.Native.Nat.{_+_, _*_, _≤_, _<_};
-ghost use lib.ListN.{length};
+// The words of a line: taken one after the other, each from the place behind the one before. Behind each word stands a space, behind the last one too.
+use crate::lines::CODE;
+use crate::lines::CODES;
+use crate::lines::KEY_CODES;
+use crate::parts::length_of;
+use wire::bytes::byte_at;
+use wire::bytes::word_at;
 
 // The place that stands for: some word was missing or was not what the call wants.
 pub(crate) const NO_WORD: usize = usize::MAX;
 
-// A decimal number, and where the next word starts.
-pub(crate) struct Number {
+// A word: the number that it says, where in the line the bytes lie that it says, and where the next word starts.
+pub(crate) struct Word {
     pub value: u64,
-    pub next: usize,
-}
-
-// A KEM, KDF or AEAD number, and where the next word starts.
-pub(crate) struct Code {
-    pub value: u16,
-    pub next: usize,
-}
-
-// Where a part starts and ends.
-pub(crate) struct Part {
-    pub start: usize,
-    pub end: usize,
-}
-
-// Where the bytes or numbers of a word lie, and where the next word starts.
-pub(crate) struct Taken {
     pub start: usize,
     pub end: usize,
     pub next: usize,
 }
 
-impl Part {
-    pub(crate) fn none() -> Self {
-        Part { start: 0, end: 0 }
-    }
-}
-
-impl Number {
-    fn none() -> Self {
-        Number {
-            value: 0,
-            next: NO_WORD,
+// Where the next word starts behind one that ends at a place; there is none where the word is not what it should be.
+fn next_word(line: &[u8], end: usize, is_right: bool) -> usize {
+    if is_right {
+        if byte_at(line, end) == b' ' {
+            return std::num::wrapping_add_usize(end, 1);
         }
     }
+    NO_WORD
 }
 
-impl Taken {
-    fn nothing() -> Self {
-        Taken {
-            start: 0,
-            end: 0,
-            next: NO_WORD,
+// What stands for the value of a text that is no name: one of more than eight letters, or of other signs.
+const NO_NAME: u64 = u64::MAX;
+
+// A text. The value of a name is the number whose digits to the base 256 are its letters.
+pub(crate) fn take_text(line: &[u8], at: usize) -> Word {
+    let mut value = 0;
+    let mut place = at;
+    while place < line.len() {
+        if line[place] == b' ' {
+            break;
         }
+        value = with_letter(value, line[place]);
+        place += 1;
     }
-
-    // So many bytes or numbers from a start on, of a word with that end. It asks for an end inside a line, so that no sum wraps.
-    fn of(start: usize, count: usize, end: usize) -> Self
-        requires { ⌜ (start + count ≤ 18446744073709551615) × (end < 18446744073709551615) ⌝ }
-    {
-        Taken {
-            start,
-            end: start + count,
-            next: end + 1,
-        }
-    }
-
-    pub(crate) fn part(self) -> Part {
-        Part {
-            start: self.start,
-            end: self.end,
-        }
+    Word {
+        value,
+        start: 0,
+        end: 0,
+        next: next_word(line, place, place != at),
     }
 }
 
-// Where the word at a place ends: at a space, or at the line's end.
-pub(crate) fn word_end(line: &[u8], at: usize) -> usize
-    ensures { λ r. ⌜ r ≤ length (now (line .entry)) ⌝ }
-{
-    let mut end = at;
-    while end < line.len() {
-        if line[end] == b' ' {
-            return end;
-        }
-        end += 1;
+fn with_letter(value: u64, letter: u8) -> u64 {
+    if 0xffffffffffffff < value {
+        return NO_NAME;
     }
-    line.len()
-}
-
-// Where the word behind the word at a place starts.
-pub(crate) fn behind(line: &[u8], at: usize) -> usize {
-    let end = word_end(line, at);
-    if end < at {
-        return NO_WORD;
+    if 25 < std::num::wrapping_sub_u8(letter, b'a') {
+        return NO_NAME;
     }
-    end + 1
-}
-
-// The line has no more words.
-pub(crate) fn is_end(line: &[u8], at: usize) -> bool {
-    if at == 0 {
-        return false;
-    }
-    at - 1 == line.len()
-}
-
-// The word at a place is this one.
-pub(crate) fn is_word(line: &[u8], at: usize, word: &[u8]) -> bool {
-    let end = word_end(line, at);
-    if end < at {
-        return false;
-    }
-    are_same(&line[at..end], word)
-}
-
-fn are_same(bytes: &[u8], others: &[u8]) -> bool {
-    if bytes.len() != others.len() {
-        return false;
-    }
-    let mut at = 0;
-    while at < bytes.len() {
-        if bytes[at] != others[at] {
-            return false;
-        }
-        at += 1;
-    }
-    true
+    value << 8 | letter as u64
 }
 
 // A decimal number, no more than the most.
-pub(crate) fn take_number(line: &[u8], at: usize, most: u64) -> Number {
-    let end = word_end(line, at);
-    if end <= at {
-        return Number::none();
-    }
+pub(crate) fn take_number(line: &[u8], at: usize, most: u64) -> Word {
     let mut value = 0;
     let mut place = at;
-    while place < end {
-        match with_digit(value, line[place]) {
-            Longer::Value(longer) => value = longer,
-            Longer::Nothing => return Number::none(),
+    while place < line.len() {
+        let digit = std::num::wrapping_sub_u8(line[place], b'0') as u64;
+        if !takes(value, digit, most) {
+            break;
         }
+        value = with_digit(value, digit);
         place += 1;
     }
-    if most < value {
-        return Number::none();
-    }
-    Number {
+    Word {
         value,
-        next: end + 1,
+        start: 0,
+        end: 0,
+        next: next_word(line, place, place != at),
     }
 }
 
-// A number with one digit more behind it, where that is a digit and the number has 64 bits.
-enum Longer {
-    Value(u64),
-    Nothing,
-}
-
-fn with_digit(value: u64, character: u8) -> Longer {
-    if character < b'0' {
-        return Longer::Nothing;
-    }
-    if b'9' < character {
-        return Longer::Nothing;
-    }
-    let digit = (character - b'0') as u64;
-    if u64::MAX / 10 < value {
-        return Longer::Nothing;
-    }
-    if u64::MAX - digit < value * 10 {
-        return Longer::Nothing;
-    }
-    Longer::Value(value * 10 + digit)
-}
-
-// Bytes in hexadecimal, `-` for none, no more than the most. They are decoded in the line itself, from the place `to` on, which is
-// not behind the word's own start.
-pub(crate) fn take_bytes(line: &mut [u8], at: usize, to: usize, most: usize) -> Taken {
-    let end = word_end(line, at);
-    if end <= at {
-        return Taken::nothing();
-    }
-    if at < to {
-        return Taken::nothing();
-    }
-    if is_none(line, at, end) {
-        return Taken::of(to, 0, end);
-    }
-    let count = (end - at) / 2;
-    if count * 2 != end - at {
-        return Taken::nothing();
-    }
-    if most < count {
-        return Taken::nothing();
-    }
-    if decode(line, at, to, count) < count {
-        return Taken::nothing();
-    }
-    Taken::of(to, count, end)
-}
-
-// The word is `-`.
-fn is_none(line: &[u8], at: usize, end: usize) -> bool
-    requires { ⌜ (at < end) × (end ≤ length (now line)) ⌝ }
-{
-    if end - at != 1 {
+// It is a digit, and the number with it behind is no more than the most.
+fn takes(value: u64, digit: u64, most: u64) -> bool {
+    if 9 < digit {
         return false;
     }
-    line[at] == b'-'
+    if most < digit {
+        return false;
+    }
+    value <= (most - digit) / 10
 }
 
-// Decodes so many bytes, or as many as have hexadecimal digits, and answers how many. It asks for a word inside the line.
-fn decode(line: &mut [u8], at: usize, to: usize, count: usize) -> usize
-    requires { ⌜ (to ≤ at) × (at + count * 2 ≤ length (now line)) ⌝ }
-{
-    let mut done = 0;
-    while done < count {
-        let from = at + done * 2;
+fn with_digit(value: u64, digit: u64) -> u64 {
+    std::num::wrapping_add_u64(value % 1844674407370955162 * 10, digit)
+}
+
+// Bytes in hexadecimal, `-` for none, as many as a kind of word allows. They are decoded in the line itself, from where the word starts. The value is
+// the number of the first two.
+pub(crate) fn take_bytes(line: &mut [u8], at: usize, kind: u32, most: u64) -> Word {
+    let place = decode(line, at);
+    let count = length_of(at, place) / 2;
+    let next = next_word(
+        line,
+        bytes_end(line, at, place),
+        is_size(count as u64, kind, most),
+    );
+    Word {
+        value: word_at(line, at) as u64,
+        start: at,
+        end: std::num::wrapping_add_usize(at, count),
+        next,
+    }
+}
+
+// A word of a kind may have so many bytes: no more than the most, two in a code, an even number in codes.
+fn is_size(count: u64, kind: u32, most: u64) -> bool {
+    if most < count {
+        return false;
+    }
+    match kind {
+        CODE => count == 2,
+        CODES | KEY_CODES => count % 2 == 0,
+        _ => true,
+    }
+}
+
+// Decodes the pairs of hexadecimal digits from a place on, and answers the place behind them.
+fn decode(line: &mut [u8], at: usize) -> usize {
+    if line.len() <= at {
+        return at;
+    }
+    let mut from = at;
+    let mut end = at;
+    while from < line.len() - 1 {
         let high = hexadecimal_digit(line[from]);
         let low = hexadecimal_digit(line[from + 1]);
-        if !are_digits(high, low) {
-            return done;
+        if 15 < high | low {
+            break;
         }
-        line[to + done] = (high % 16) * 16 + low % 16;
-        done += 1;
+        line[end] = high << 4 | low;
+        from += 2;
+        end += 1;
     }
-    done
+    from
 }
 
-// What stands for a character that is no hexadecimal digit.
-const NO_HEXADECIMAL: u8 = 16;
-
-fn hexadecimal_digit(character: u8) -> u8 {
-    let digit = std::num::wrapping_sub_u8(character, b'0');
+// The value of a hexadecimal digit; 16 for any other sign.
+fn hexadecimal_digit(sign: u8) -> u8 {
+    let digit = std::num::wrapping_sub_u8(sign, b'0');
     if digit < 10 {
         return digit;
     }
-    let letter = std::num::wrapping_sub_u8(character, b'a');
+    let letter = std::num::wrapping_sub_u8(sign, b'a');
     if letter < 6 {
         return letter + 10;
     }
-    NO_HEXADECIMAL
+    16
 }
 
-fn are_digits(high: u8, low: u8) -> bool {
-    if high == NO_HEXADECIMAL {
-        return false;
+// Where a word of bytes ends whose digits end at a place: there, or behind a `-`; NO_WORD where it has neither.
+fn bytes_end(line: &[u8], at: usize, place: usize) -> usize {
+    if place != at {
+        return place;
     }
-    low != NO_HEXADECIMAL
-}
-
-// A KEM, KDF or AEAD number: four hexadecimal digits.
-pub(crate) fn take_code(line: &[u8], at: usize) -> Code {
-    let end = word_end(line, at);
-    if end < at {
-        return Code {
-            value: 0,
-            next: NO_WORD,
-        };
+    if byte_at(line, at) == b'-' {
+        return std::num::wrapping_add_usize(at, 1);
     }
-    if end - at != 4 {
-        return Code {
-            value: 0,
-            next: NO_WORD,
-        };
-    }
-    let value = code_at(line, at);
-    if value == NO_CODE {
-        return Code {
-            value: 0,
-            next: NO_WORD,
-        };
-    }
-    Code {
-        value: (value % 65536) as u16,
-        next: end + 1,
-    }
-}
-
-// What stands for four characters that are not all hexadecimal digits.
-const NO_CODE: u32 = 65536;
-
-// The number of the four hexadecimal digits at a place, which the line has.
-fn code_at(line: &[u8], at: usize) -> u32
-    requires { ⌜ at + 4 ≤ length (now line) ⌝ }
-{
-    let first = hexadecimal_digit(line[at]);
-    let second = hexadecimal_digit(line[at + 1]);
-    let third = hexadecimal_digit(line[at + 2]);
-    let fourth = hexadecimal_digit(line[at + 3]);
-    if !are_digits(first, second) {
-        return NO_CODE;
-    }
-    if !are_digits(third, fourth) {
-        return NO_CODE;
-    }
-    wide(first) * 4096 + wide(second) * 256 + wide(third) * 16 + wide(fourth)
-}
-
-fn wide(digit: u8) -> u32
-    ensures { λ r. ⌜ r ≤ 15 ⌝ }
-{
-    (digit % 16) as u32
-}
-
-// KEM numbers, or KDF and AEAD numbers by turns, `-` for none, no more than the most. They are put into `numbers` from a place on.
-pub(crate) fn take_numbers(
-    line: &[u8],
-    at: usize,
-    numbers: &mut [u16],
-    to: usize,
-    most: usize,
-) -> Taken {
-    let end = word_end(line, at);
-    if end <= at {
-        return Taken::nothing();
-    }
-    if numbers.len() < to {
-        return Taken::nothing();
-    }
-    if is_none(line, at, end) {
-        return Taken::of(to, 0, end);
-    }
-    let count = (end - at) / 4;
-    if count * 4 != end - at {
-        return Taken::nothing();
-    }
-    if most < count {
-        return Taken::nothing();
-    }
-    if numbers.len() - to < count {
-        return Taken::nothing();
-    }
-    if decode_numbers(line, at, numbers, to, count) < count {
-        return Taken::nothing();
-    }
-    Taken::of(to, count, end)
-}
-
-// Decodes so many numbers, or as many as have hexadecimal digits, and answers how many. It asks for a word inside the line, and
-// for room.
-fn decode_numbers(line: &[u8], at: usize, numbers: &mut [u16], to: usize, count: usize) -> usize
-    requires { ⌜ (at + count * 4 ≤ length (now line)) × (to + count ≤ length (now numbers)) ⌝ }
-{
-    let mut done = 0;
-    while done < count {
-        let value = code_at(line, at + done * 4);
-        if value == NO_CODE {
-            return done;
-        }
-        numbers[to + done] = (value % 65536) as u16;
-        done += 1;
-    }
-    done
-}
-
-// A part of the line, empty where the line has no such part.
-pub(crate) fn bytes_of(line: &[u8], part: Part) -> &[u8] {
-    let start = part.start;
-    let end = part.end;
-    if end < start {
-        return &line[..0];
-    }
-    if line.len() < end {
-        return &line[..0];
-    }
-    &line[start..end]
-}
-
-// A part of the numbers, empty where there is no such part.
-pub(crate) fn numbers_of(numbers: &[u16], part: Part) -> &[u16] {
-    let start = part.start;
-    let end = part.end;
-    if end < start {
-        return &numbers[..0];
-    }
-    if numbers.len() < end {
-        return &numbers[..0];
-    }
-    &numbers[start..end]
+    NO_WORD
 }

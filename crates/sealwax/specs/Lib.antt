@@ -1,0 +1,2 @@
+-- What the program does with the gateway.
+pub mod Calls
