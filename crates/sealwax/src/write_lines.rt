@@ -8,7 +8,6 @@ use crate::client_lines::numbers_of;
 use crate::client_lines::put_bad_line;
 use crate::client_lines::put_numbers;
 use crate::input::move_down;
-use crate::input::set;
 use crate::lines::CONFIGURATION;
 use crate::lines::Line;
 use crate::lines::take_all;
@@ -30,8 +29,11 @@ const LENGTHS_SIZE: usize = 2 * MOST_GIVEN;
 
 type Lengths = [usize; LENGTHS_SIZE];
 
-// The configurations so far. Of the line's own bytes the first MOST_GIVEN are their key ids, and the others up to `keys_end` their keys; of the numbers
-// the first MOST_GIVEN are their KEMs, and the others up to `pairs_end` their pairs. The next word starts at `next`.
+type Ids = [u8; MOST_GIVEN];
+
+// The configurations so far. Their keys stand in the line itself, from where its configurations start up to `keys_end`: a key is moved down there, since
+// an id and a KEM stand in front of it. Of the numbers the first MOST_GIVEN are their KEMs, and the others up to `pairs_end` their pairs. The next word
+// starts at `next`.
 struct Given {
     count: usize,
     keys_end: usize,
@@ -40,7 +42,13 @@ struct Given {
 }
 
 // With the configuration of the next four words.
-fn with_next(given: Given, line: &mut [u8], numbers: &mut Numbers, lengths: &mut Lengths) -> Given {
+fn with_next(
+    given: Given,
+    line: &mut [u8],
+    ids: &mut Ids,
+    numbers: &mut Numbers,
+    lengths: &mut Lengths,
+) -> Given {
     let said = take_all(line, given.next, CONFIGURATION);
     let count = given.count % MOST_GIVEN;
     let pairs_end = put_numbers(
@@ -53,7 +61,7 @@ fn with_next(given: Given, line: &mut [u8], numbers: &mut Numbers, lengths: &mut
     lengths[count] = move_down(line, said.start, said.end, given.keys_end);
     lengths[MOST_GIVEN + count] = length_of(given.pairs_end, pairs_end);
     numbers[count] = code_of(said.second);
-    set(line, count, id_of(said.first));
+    ids[count] = id_of(said.first);
     Given {
         count: count + 1,
         keys_end: std::num::wrapping_add_usize(given.keys_end, lengths[count]),
@@ -63,10 +71,16 @@ fn with_next(given: Given, line: &mut [u8], numbers: &mut Numbers, lengths: &mut
 }
 
 // The configurations of the words from a place on, as many as a line may have.
-fn take_given(line: &mut [u8], at: usize, numbers: &mut Numbers, lengths: &mut Lengths) -> Given {
+fn take_given(
+    line: &mut [u8],
+    at: usize,
+    ids: &mut Ids,
+    numbers: &mut Numbers,
+    lengths: &mut Lengths,
+) -> Given {
     let mut given = Given {
         count: 0,
-        keys_end: MOST_GIVEN,
+        keys_end: at,
         pairs_end: MOST_GIVEN,
         next: at,
     };
@@ -75,7 +89,7 @@ fn take_given(line: &mut [u8], at: usize, numbers: &mut Numbers, lengths: &mut L
         if line.len() <= given.next {
             break;
         }
-        given = with_next(given, line, numbers, lengths);
+        given = with_next(given, line, ids, numbers, lengths);
         left -= 1;
     }
     given
@@ -91,16 +105,19 @@ pub(crate) fn put_write(
 ) -> usize {
     let mut numbers = [0u16; NUMBERS_SIZE];
     let mut lengths = [0usize; LENGTHS_SIZE];
-    let given = take_given(line, said.next, &mut numbers, &mut lengths);
+    let mut ids = [0u8; MOST_GIVEN];
+    let given = take_given(line, said.next, &mut ids, &mut numbers, &mut lengths);
     if given.next == line.len() {
-        return put_written(given, line, &numbers, &lengths, said.first, out, at);
+        let keys = part_of(line, said.next, given.keys_end);
+        return put_written(given, keys, &ids, &numbers, &lengths, said.first, out, at);
     }
     put_bad_line(number, out, at)
 }
 
 fn put_written(
     given: Given,
-    line: &[u8],
+    keys: &[u8],
+    ids: &Ids,
     numbers: &Numbers,
     lengths: &Lengths,
     room: u64,
@@ -111,10 +128,10 @@ fn put_written(
     let room = list_room_of(room);
     let mut list = [FILL; MOST_LIST_ROOM];
     let result = write_result(listwriter::write(
-        part_of(line, 0, given.count),
+        part_of(ids, 0, given.count),
         numbers_of(numbers, 0, given.count),
         lengths_of(lengths, 0, given.count),
-        part_of(line, MOST_GIVEN, given.keys_end),
+        keys,
         lengths_of(lengths, MOST_GIVEN, given.count),
         numbers_of(numbers, MOST_GIVEN, given.pairs_end),
         &mut list[front..room],

@@ -7,10 +7,10 @@ use Rattle.sealwax.proofs.write_lines.take_given.Statement.{statement}
 use Rattle.sealwax.proofs.write_lines.take_given.Tie as tie
 
 abbrev Inv-loop : tie.InvT-loop
-Inv-loop line₀ at numbers₀ lengths₀ given₀ left₀ line numbers lengths given left = length line ≡ length line₀
+Inv-loop line₀ at ids₀ numbers₀ lengths₀ given₀ left₀ line ids numbers lengths given left = length line ≡ length line₀
 
 abbrev μ-loop : tie.MeasureT-loop
-μ-loop line₀ at numbers₀ lengths₀ given₀ left₀ line numbers lengths given left = left
+μ-loop line₀ at ids₀ numbers₀ lengths₀ given₀ left₀ line ids numbers lengths given left = left
 
 pub take-given-spec : {M : Type 1} → statement M
 take-given-spec =
