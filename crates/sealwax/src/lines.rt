@@ -1,4 +1,6 @@
-// What a line says: the name of a call, its numbers and its bytes.
+// What a line says: the name of a call, its numbers and its bytes. To add a line: its name and the kinds of its words, here; and the function that makes the
+// call and puts the answer, as one form with its numbers: in `gateway_lines` for a call on the gateway, with its case of `Call` and of the definition in
+// specs/, else in `client_lines`.
 use crate::words::NO_WORD;
 use crate::words::Word;
 use crate::words::take_bytes;
