@@ -9,11 +9,4 @@ returns : tie.Need-returns
 returns c = c .put .ensures ∙ c .before .before .before .before .before .retire .ensures .1 .0
 
 pub retire-spec : {M : Type 1} → statement M
-retire-spec =
-    tie.close
-    (tie.spec
-    (λ c κs. search needs)
-    (λ c. search needs)
-    (λ c κs. search needs)
-    (λ c κs. search needs)
-    returns)
+retire-spec = tie.close (tie.spec (λ c κs. search needs) (λ c. search needs) (λ c κs. search needs) (λ c κs. search needs) returns)

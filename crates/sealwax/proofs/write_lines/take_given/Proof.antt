@@ -13,17 +13,5 @@ abbrev μ-loop : tie.MeasureT-loop
 μ-loop line₀ at ids₀ numbers₀ lengths₀ given₀ left₀ line ids numbers lengths given left = left
 
 pub take-given-spec : {M : Type 1} → statement M
-take-given-spec =
-    tie.close
-    (tie.spec
-    Inv-loop
-    μ-loop
-    (λ c. search needs)
-    (λ c κs. search needs)
-    (λ c. search needs)
-    (λ c. search needs)
-    (λ c. search needs)
-    (λ c. search needs)
-    (λ c. search needs)
-    (λ c. search needs)
-    (λ c. search needs))
+take-given-spec = tie.close (tie.spec Inv-loop μ-loop (λ c. search needs) (λ c κs. search needs) (λ c. search needs) (λ c. search needs)
+    (λ c. search needs) (λ c. search needs) (λ c. search needs) (λ c. search needs) (λ c. search needs))
