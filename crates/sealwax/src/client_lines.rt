@@ -9,11 +9,11 @@ use crate::parts::part_of;
 use crate::parts::room_of;
 use crate::text::put_answer;
 use crate::text::put_buffer;
+use crate::text::put_form;
 use crate::text::put_found;
 use crate::text::put_labelled;
 use crate::text::put_lent;
 use crate::text::put_short;
-use crate::text::put_two;
 use algorithms::Aead;
 use algorithms::Kdf;
 use algorithms::Kem;
@@ -63,7 +63,7 @@ pub(crate) fn answer(
 }
 
 pub(crate) fn put_bad_line(number: u64, out: &mut OutputBuffer, at: usize) -> usize {
-    put_two(out, at, b"bad line %", number, 0)
+    put_form(out, at, b"bad line %", &[number])
 }
 
 fn put_check(line: Line, bytes: &[u8], out: &mut OutputBuffer, at: usize) -> usize {
@@ -164,8 +164,8 @@ fn put_chosen(out: &mut OutputBuffer, at: usize, result: ChooseResult) -> usize 
 
 fn put_head(line: Line, bytes: &[u8], out: &mut OutputBuffer, mut at: usize) -> usize {
     let front = 0;
-    let room = room_of(line.fifth);
-    let info_room = room_of(line.sixth);
+    let room = room_of(line.fifth, MOST_ROOM);
+    let info_room = room_of(line.sixth, MOST_ROOM);
     let mut request = [FILL; MOST_ROOM];
     let mut info = [FILL; MOST_ROOM];
     let result = write_head(
@@ -209,7 +209,7 @@ fn put_split(line: Line, bytes: &[u8], out: &mut OutputBuffer, mut at: usize) ->
 
 fn put_exporter(line: Line, out: &mut OutputBuffer, mut at: usize) -> usize {
     let front = 0;
-    let room = room_of(line.second);
+    let room = room_of(line.second, MOST_ROOM);
     let mut context = [FILL; MOST_ROOM];
     let result = exporter(code_of(line.first), &mut context[front..room]);
     let secret = result.second as u64;

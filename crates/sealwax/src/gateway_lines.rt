@@ -9,12 +9,11 @@ use crate::output::OutputBuffer;
 use crate::parts::FILL;
 use crate::parts::MOST_ROOM;
 use crate::parts::room_of;
-use crate::text::put;
 use crate::text::put_answer;
 use crate::text::put_buffer;
 use crate::text::put_byte;
+use crate::text::put_form;
 use crate::text::put_short;
-use crate::text::put_two;
 use exchange::Move;
 use gateway::Gateway;
 use gateway::change;
@@ -117,7 +116,7 @@ fn admit(gateway: Gateway, request: &[u8], room: u64, out: &mut OutputBuffer, at
     ensures { λ r. ⌜ r .gateway ≡ gatewayDoes gateway (admit (now (request .entry)) (lent room)) .state ⌝ }
 {
     let front = 0;
-    let room = room_of(room);
+    let room = room_of(room, MOST_ROOM);
     let mut info = [FILL; MOST_ROOM];
     let done = gateway_calls::admit(gateway, request, &mut info[front..room]);
     let end = put_admitted(out, at, done.result);
@@ -161,7 +160,7 @@ fn step(
         (onTicket ticket (step asks (now (enc .entry)) (now (nonce .entry)) (lent room))) .state ⌝ }
 {
     let front = 0;
-    let room = room_of(room);
+    let room = room_of(room, MOST_ROOM);
     let mut salt = [FILL; MOST_ROOM];
     let done = gateway_calls::step(gateway, ticket, asks, enc, nonce, &mut salt[front..room]);
     let end = put_step(out, at, asks, done.result, &salt, room);
@@ -212,12 +211,11 @@ fn retire(gateway: Gateway, key_id: u8, out: &mut OutputBuffer, at: usize) -> An
 fn report(gateway: Gateway, out: &mut OutputBuffer, at: usize) -> usize {
     let result = gateway_calls::report(gateway);
     let keys = result.keys;
-    let end = put_two(
+    let end = put_form(
         out,
         at,
         b"report last=% pending=% keys=",
-        result.last_ticket,
-        result.pending as u64,
+        &[result.last_ticket, result.pending as u64],
     );
     put_keys(out, end, keys, result.key_count)
 }
@@ -244,9 +242,16 @@ fn put_keys(
 }
 
 fn put_key(out: &mut OutputBuffer, at: usize, key: KeyReport) -> usize {
-    let end = put_two(out, at, b"%:%", key.id.0 as u64, key.count as u64);
-    if key.retired {
-        return put(out, end, b":retired,");
-    }
-    put(out, end, b":live,")
+    put_form(
+        out,
+        at,
+        b"%:%:?retired?live?,",
+        &[
+            key.id.0 as u64,
+            key.count as u64,
+            key.retired as u64,
+            !key.retired as u64,
+            1,
+        ],
+    )
 }

@@ -119,14 +119,13 @@ const FAILED: u64 = 0x6661696c6564;
 
 fn take_result(line: &[u8], at: usize) -> Word {
     let mut word = take_text(line, at);
-    word.next = next_of_result(word.value, word.next);
-    word
-}
-
-fn next_of_result(result: u64, next: usize) -> usize {
-    match result {
-        OK | FAILED => next,
-        _ => NO_WORD,
+    let value = word.value;
+    match value {
+        OK | FAILED => word,
+        _ => {
+            word.next = NO_WORD;
+            word
+        }
     }
 }
 

@@ -24,8 +24,12 @@ pub(crate) const MOST_ROOM: usize = 256;
 pub(crate) const FILL: u8 = 0xa5;
 
 // The room that a call asks for, but no more than a buffer has.
-pub(crate) fn room_of(room: u64) -> usize
-    ensures { λ r. ⌜ r ≡ min room 256 ⌝ }
+pub(crate) fn room_of(room: u64, most: usize) -> usize
+    ensures { λ r. ⌜ r ≡ min room most ⌝ }
 {
-    if room < 256 { room as usize } else { MOST_ROOM }
+    if room < most as u64 {
+        room as usize
+    } else {
+        most
+    }
 }

@@ -93,35 +93,48 @@ fn put_code(out: &mut OutputBuffer, at: usize, number: u64) -> usize {
     put_two_digits(out, end, (number % 256) as u8)
 }
 
-// What a sign of a form stands for: `%` for a number in decimal, `#` for one in four hexadecimal digits, and any other for itself.
-fn put_sign(out: &mut OutputBuffer, at: usize, sign: u8, number: u64) -> usize {
-    match sign {
-        b'%' => put_decimal(out, at, number),
-        b'#' => put_code(out, at, number),
-        _ => put_byte(out, at, sign),
-    }
-}
-
-// How many numbers a sign takes.
-fn numbers_of(sign: u8) -> usize {
-    match sign {
-        b'%' | b'#' => 1,
-        _ => 0,
-    }
-}
-
-// A form with its numbers: each sign that takes one takes the next.
+// A form with its numbers: `%` is the next number in decimal, `#` the next in four hexadecimal digits, and all else itself. What stands between a `?` and the next
+// one, or the end, is left out where the next number at the `?` is 0.
 pub(crate) fn put_form(out: &mut OutputBuffer, at: usize, form: &[u8], numbers: &[u64]) -> usize {
     let mut end = at;
     let mut done = 0;
     let mut used = 0;
+    let mut is_shown = true;
     while done < form.len() {
         let sign = form[done];
-        end = put_sign(out, end, sign, number_at(numbers, used));
-        used = std::num::wrapping_add_usize(used, numbers_of(sign));
+        if takes_number(sign) {
+            let number = number_at(numbers, used);
+            is_shown = shows(sign, number, is_shown);
+            end = put_number(out, end, sign, number, is_shown);
+            used = std::num::wrapping_add_usize(used, 1);
+        } else if is_shown {
+            end = put_byte(out, end, sign);
+        }
         done += 1;
     }
     end
+}
+
+fn takes_number(sign: u8) -> bool {
+    match sign {
+        b'%' | b'#' | b'?' => true,
+        _ => false,
+    }
+}
+
+fn shows(sign: u8, number: u64, is_shown: bool) -> bool {
+    if sign == b'?' { number != 0 } else { is_shown }
+}
+
+fn put_number(out: &mut OutputBuffer, at: usize, sign: u8, number: u64, is_shown: bool) -> usize {
+    if !is_shown {
+        return at;
+    }
+    match sign {
+        b'%' => put_decimal(out, at, number),
+        b'#' => put_code(out, at, number),
+        _ => at,
+    }
 }
 
 fn number_at(numbers: &[u64], place: usize) -> u64 {
@@ -132,43 +145,25 @@ fn number_at(numbers: &[u64], place: usize) -> u64 {
     }
 }
 
-// A form with no more than two numbers.
-pub(crate) fn put_two(
-    out: &mut OutputBuffer,
-    at: usize,
-    form: &[u8],
-    first: u64,
-    second: u64,
-) -> usize {
-    put_form(out, at, form, &[first, second])
-}
-
-// A form with one number, where a test holds.
-fn put_where(out: &mut OutputBuffer, at: usize, test: bool, form: &[u8], number: u64) -> usize {
-    if test {
-        return put_two(out, at, form, number, 0);
-    }
-    at
-}
-
 // A refusal: its number, its place where the number has one, the status where one is sent, the problem type where there is one.
 fn put_refusal(out: &mut OutputBuffer, at: usize, outcome: Outcome) -> usize {
     let refusal = Refusal {
         number: outcome.number,
         place: outcome.place,
     };
-    let has_place = refusal.has_place();
-    let is_key_problem = outcome.problem == Outcome::OHTTP_KEY;
-    let end = put_two(out, at, b"refused %", outcome.number as u64, 0);
-    let end = put_where(out, end, has_place, b" at %", outcome.place as u64);
-    let end = put_where(
+    put_form(
         out,
-        end,
-        outcome.status != 0,
-        b" status=%",
-        outcome.status as u64,
-    );
-    put_where(out, end, is_key_problem, b" ohttp-key", 0)
+        at,
+        b"refused %? at %? status=%? ohttp-key",
+        &[
+            outcome.number as u64,
+            refusal.has_place() as u64,
+            outcome.place as u64,
+            outcome.status as u64,
+            outcome.status as u64,
+            outcome.problem as u64,
+        ],
+    )
 }
 
 // The answer to a call: the form with its numbers, or the refusal.

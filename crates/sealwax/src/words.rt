@@ -17,11 +17,13 @@ pub(crate) struct Word {
     pub next: usize,
 }
 
-// Where the next word starts behind one that ends at a place; there is none where the word is not what it should be.
-fn next_word(line: &[u8], end: usize, is_right: bool) -> usize {
+// Where the next word starts behind one from a place up to another; there is none where that is empty or not what it should be.
+fn next_word(line: &[u8], start: usize, end: usize, is_right: bool) -> usize {
     if is_right {
-        if byte_at(line, end) == b' ' {
-            return std::num::wrapping_add_usize(end, 1);
+        if start < end {
+            if byte_at(line, end) == b' ' {
+                return std::num::wrapping_add_usize(end, 1);
+            }
         }
     }
     NO_WORD
@@ -45,7 +47,7 @@ pub(crate) fn take_text(line: &[u8], at: usize) -> Word {
         value,
         start: 0,
         end: 0,
-        next: next_word(line, place, place != at),
+        next: next_word(line, at, place, true),
     }
 }
 
@@ -68,14 +70,14 @@ pub(crate) fn take_number(line: &[u8], at: usize, most: u64) -> Word {
         if !takes(value, digit, most) {
             break;
         }
-        value = with_digit(value, digit);
+        value = std::num::wrapping_add_u64(value % 1844674407370955162 * 10, digit);
         place += 1;
     }
     Word {
         value,
         start: 0,
         end: 0,
-        next: next_word(line, place, place != at),
+        next: next_word(line, at, place, true),
     }
 }
 
@@ -90,44 +92,39 @@ fn takes(value: u64, digit: u64, most: u64) -> bool {
     value <= (most - digit) / 10
 }
 
-fn with_digit(value: u64, digit: u64) -> u64 {
-    std::num::wrapping_add_u64(value % 1844674407370955162 * 10, digit)
-}
-
 // Bytes in hexadecimal, `-` for none, as many as a kind of word allows. They are decoded in the line itself, from where the word starts. The value is
 // the number of the first two.
 pub(crate) fn take_bytes(line: &mut [u8], at: usize, kind: u32, most: u64) -> Word {
     let place = decode(line, at);
-    let count = length_of(at, place) / 2;
-    let next = next_word(
-        line,
-        bytes_end(line, at, place),
-        is_size(count as u64, kind, most),
-    );
+    let signs = length_of(at, place);
+    let next = next_word(line, at, place, is_size(signs as u64, kind, most));
     Word {
         value: word_at(line, at) as u64,
         start: at,
-        end: std::num::wrapping_add_usize(at, count),
+        end: std::num::wrapping_add_usize(at, signs / 2),
         next,
     }
 }
 
-// A word of a kind may have so many bytes: no more than the most, two in a code, an even number in codes.
-fn is_size(count: u64, kind: u32, most: u64) -> bool {
-    if most < count {
+// A word of a kind may have so many signs: some, two for each byte, and no more than the most bytes; one code; some codes, or a `-`.
+fn is_size(signs: u64, kind: u32, most: u64) -> bool {
+    if most < signs / 2 {
         return false;
     }
     match kind {
-        CODE => count == 2,
-        CODES | KEY_CODES => count % 2 == 0,
+        CODE => signs == 4,
+        CODES | KEY_CODES => signs / 2 % 2 == 0,
         _ => true,
     }
 }
 
-// Decodes the pairs of hexadecimal digits from a place on, and answers the place behind them.
+// Decodes the pairs of hexadecimal digits from a place on, and answers the place behind them, or behind a `-`.
 fn decode(line: &mut [u8], at: usize) -> usize {
     if line.len() <= at {
         return at;
+    }
+    if line[at] == b'-' {
+        return at + 1;
     }
     let mut from = at;
     let mut end = at;
@@ -155,15 +152,4 @@ fn hexadecimal_digit(sign: u8) -> u8 {
         return letter + 10;
     }
     16
-}
-
-// Where a word of bytes ends whose digits end at a place: there, or behind a `-`; NO_WORD where it has neither.
-fn bytes_end(line: &[u8], at: usize, place: usize) -> usize {
-    if place != at {
-        return place;
-    }
-    if byte_at(line, at) == b'-' {
-        return std::num::wrapping_add_usize(at, 1);
-    }
-    NO_WORD
 }

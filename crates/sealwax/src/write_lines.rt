@@ -1,5 +1,4 @@
 // The line `write`: its configurations, gathered as the list writer takes them.
-ghost use Prim.Native.Nat.{_≤_};
 use crate::client_lines::NUMBERS_SIZE;
 use crate::client_lines::Numbers;
 use crate::client_lines::code_of;
@@ -15,6 +14,7 @@ use crate::output::OutputBuffer;
 use crate::parts::FILL;
 use crate::parts::length_of;
 use crate::parts::part_of;
+use crate::parts::room_of;
 use crate::text::put_labelled;
 use crate::text::put_short;
 use results::list_calls::write_result;
@@ -125,7 +125,7 @@ fn put_written(
     mut at: usize,
 ) -> usize {
     let front = 0;
-    let room = list_room_of(room);
+    let room = room_of(room, MOST_LIST_ROOM);
     let mut list = [FILL; MOST_LIST_ROOM];
     let result = write_result(listwriter::write(
         part_of(ids, 0, given.count),
@@ -145,16 +145,6 @@ fn put_written(
         0,
     );
     put_list(out, at, &list, room)
-}
-
-fn list_room_of(room: u64) -> usize
-    ensures { λ r. ⌜ r ≤ 4096 ⌝ }
-{
-    if room < 4096 {
-        room as usize
-    } else {
-        MOST_LIST_ROOM
-    }
 }
 
 fn put_list(out: &mut OutputBuffer, at: usize, list: &[u8; MOST_LIST_ROOM], room: usize) -> usize {
