@@ -2,3 +2,4 @@
 pub mod Table
 pub mod Sizes
 pub mod Stated
+pub mod Helpers

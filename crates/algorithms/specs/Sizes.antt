@@ -1,13 +1,11 @@
 -- 01, "Algorithm sizes": which numbers are known, and the sizes that belong to each algorithm. A size of an unknown number is 0
 -- or made of 0, and no entry answers it.
 use Prim.Native.Nat.{ℕ, _+_, max}
-use mathlib.Core.Bool.{Bool, true, false, not}
+use mathlib.Core.Bool.{Bool, not}
 use lib.Dec.{eqb}
 use Rattle.wire.specs.Texts.{headLength}
 use Rattle.wire.specs.Tests.{_and_}
 use Rattle.algorithms.specs.declared.Row.{Row}
-use Rattle.algorithms.specs.declared.Size.{Size}
-use Rattle.algorithms.specs.declared.Size.the-variants.{Bytes, Unknown}
 use Rattle.algorithms.specs.Table.{kemKind, kdfKind, aeadKind, rowOf}
 
 -- the tag of every AEAD
@@ -58,8 +56,3 @@ responseNonceLength aead = max nonceLength (keyLength aead)
 -- the exported secret is as long as the response nonce
 abbrev pub secretLength : ℕ → ℕ
 secretLength aead = responseNonceLength aead
-
--- the answer of a size lookup
-abbrev pub sizeOf : Bool → ℕ → Size
-sizeOf true size = Bytes size
-sizeOf false size = Unknown

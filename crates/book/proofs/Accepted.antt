@@ -16,16 +16,16 @@ use Rattle.exchange.specs.Exchange.{exchangeOf}
 use Rattle.exchange.specs.Steps.{answer, buffer}
 use Rattle.gateway.specs.Registry.{admitAnswer, retireAnswer, report}
 use Rattle.gateway.specs.Calls.{Call, admit, retire, onTicket, reporting, ofAdmit, ofRetire, ofStep, ofReport, Done}
-use Rattle.book.specs.Book.{Book, admitted, keyRetired, bookStepped, admitNumber, retireNumber, ticketNumber, bookDoes}
+use Rattle.book.specs.Book.{Book, bookStepped, bookDoes, bookAdmitted, bookRetired, bookAdmitNumber, bookRetireNumber, bookStepNumber}
 use Rattle.book.specs.History.{event, isAccepted}
 use Rattle.book.specs.Demand3.{isKept}
 use Rattle.book.proofs.Numbers.{admit-number, retire-number, step-number}
 
 -- the refusal number of a call; a report, which is struck out as refused calls are, has one too
 abbrev pub numberOf : Book → Call → ℕ
-numberOf b (admit request info) = admitNumber request info b
-numberOf b (retire id) = retireNumber id b
-numberOf b (onTicket ticket step) = ticketNumber ticket step b
+numberOf b (admit request info) = bookAdmitNumber request info b
+numberOf b (retire id) = bookRetireNumber id b
+numberOf b (onTicket ticket step) = bookStepNumber ticket step b
 numberOf b reporting = 1
 
 -- what an accepted call gives
@@ -34,9 +34,9 @@ given b (admit request info) =
     record {
       answer = ofAdmit (admitAnswer 0 (b .registry .lastTicket + 1) request);
       buffer = written 0 (infoOf request) info;
-      state = admitted request b;
+      state = bookAdmitted request b;
     }
-given b (retire id) = record { answer = ofRetire (retireAnswer 0); buffer = []; state = keyRetired id b }
+given b (retire id) = record { answer = ofRetire (retireAnswer 0); buffer = []; state = bookRetired id b }
 given b (onTicket ticket step) =
     record {
       answer = ofStep (answer step (exchangeOf ticket (b .pending)));
@@ -61,9 +61,9 @@ and-true false = refl
 -- a call is kept where its number is 0
 pub kept-number : (b : Book) (call : Call) → isKept (event call (bookDoes b call)) ≡ eqb (numberOf b call) 0
 unfolding bookDoes
-kept-number b (admit request info) = rw admit-number (and-true (eqb (admitNumber request info b) 0))
-kept-number b (retire id) = rw retire-number (and-true (eqb (retireNumber id b) 0))
-kept-number b (onTicket ticket step) = rw step-number (and-true (eqb (ticketNumber ticket step b) 0))
+kept-number b (admit request info) = rw admit-number (and-true (eqb (bookAdmitNumber request info b) 0))
+kept-number b (retire id) = rw retire-number (and-true (eqb (bookRetireNumber id b) 0))
+kept-number b (onTicket ticket step) = rw step-number (and-true (eqb (bookStepNumber ticket step b) 0))
 kept-number b reporting = and-false (isAccepted (event reporting (bookDoes b reporting))) false refl
 
 -- what stays by a number other than 0
@@ -73,7 +73,7 @@ stays n after before e = sym (unless-refused n after before (eqb-false n 0 e))
 -- and where its number is another, the book stays
 pub refused-stays : (b : Book) (call : Call) → eqb (numberOf b call) 0 ≡ false → bookDoes b call .state ≡ b
 unfolding bookDoes
-refused-stays b (admit request info) e = stays (admitNumber request info b) (admitted request b) b e
-refused-stays b (retire id) e = stays (retireNumber id b) (keyRetired id b) b e
-refused-stays b (onTicket ticket step) e = stays (ticketNumber ticket step b) (bookStepped ticket step b) b e
+refused-stays b (admit request info) e = stays (bookAdmitNumber request info b) (bookAdmitted request b) b e
+refused-stays b (retire id) e = stays (bookRetireNumber id b) (bookRetired id b) b e
+refused-stays b (onTicket ticket step) e = stays (bookStepNumber ticket step b) (bookStepped ticket step b) b e
 refused-stays b reporting e = refl

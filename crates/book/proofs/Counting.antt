@@ -13,10 +13,12 @@ use Rattle.wire.specs.Refusals.{unlessRefused}
 use Rattle.wire.proofs.Booleans.{either, and-false}
 use Rattle.wire.proofs.Matches.{first-passes}
 use Rattle.request.specs.Request.{keyIdOf}
-use Rattle.keys.specs.Keys.{Key, noKey, hasId, placeOfKey, keyAt, withUse, withRetirement}
+use Rattle.keys.specs.Keys.{Key, hasId, withUse, withRetirement}
+use Rattle.keys.specs.Helpers.{placeOfKey, noKey, keyAt}
+use Rattle.keys.proofs.Named.{with-key}
 use Rattle.gateway.specs.Registry.{admitAnswer}
 use Rattle.gateway.specs.Calls.{Call, admit, retire, onTicket, reporting, Answer, ofAdmit, number}
-use Rattle.book.specs.Book.{Book, setIsFull, admitted, keyRetired, bookStepped, admitNumber, retireNumber, ticketNumber, bookDoes}
+use Rattle.book.specs.Book.{Book, setIsFull, bookStepped, bookDoes, bookAdmitted, bookRetired, bookAdmitNumber, bookRetireNumber, bookStepNumber}
 use Rattle.book.specs.History.{Event, event, trace, final, filtered, isAccepted, admissionsOf, ticketsOf}
 use mathlib.Core.Bool.{Bool, false}
 use Rattle.book.specs.Counts.{namesKey, admissionsOfKey, ticketsGiven, countingFrom}
@@ -28,13 +30,13 @@ use Rattle.book.proofs.Sound.{Sound, sound-kept}
 ids-kept : (b : Book) (call : Call) → ids (bookDoes b call .state .registry .keys) ≡ ids (b .registry .keys)
 unfolding bookDoes
 ids-kept b (admit request info) =
-    unless-kept (λ (c : Book). ids (c .registry .keys) ≡ ids (b .registry .keys)) (admitNumber request info b)
-    (λ e. used-ids (placeOfKey (keyIdOf request) (b .registry .keys)) (b .registry .keys)) refl
+    unless-kept (λ (c : Book). ids (c .registry .keys) ≡ ids (b .registry .keys)) (bookAdmitNumber request info b)
+    (λ e. rw (with-key withUse (keyIdOf request) (b .registry .keys)) (used-ids (placeOfKey (keyIdOf request) (b .registry .keys)) (b .registry .keys))) refl
 ids-kept b (retire id) =
-    unless-kept (λ (c : Book). ids (c .registry .keys) ≡ ids (b .registry .keys)) (retireNumber id b)
-    (λ e. retired-ids (placeOfKey id (b .registry .keys)) (b .registry .keys)) refl
+    unless-kept (λ (c : Book). ids (c .registry .keys) ≡ ids (b .registry .keys)) (bookRetireNumber id b)
+    (λ e. rw (with-key withRetirement id (b .registry .keys)) (retired-ids (placeOfKey id (b .registry .keys)) (b .registry .keys))) refl
 ids-kept b (onTicket ticket step) =
-    unless-kept (λ (c : Book). ids (c .registry .keys) ≡ ids (b .registry .keys)) (ticketNumber ticket step b) (λ e. refl) refl
+    unless-kept (λ (c : Book). ids (c .registry .keys) ≡ ids (b .registry .keys)) (bookStepNumber ticket step b) (λ e. refl) refl
 ids-kept b reporting = refl
 
 pub ids-after : (b : Book) (calls : List Call) → ids (final bookDoes b calls .registry .keys) ≡ ids (b .registry .keys)
@@ -49,7 +51,7 @@ gain call answer id = pick (eqb (number answer) 0 and namesKey id call) 1 0
 -- admit adds one to the count of the key that it names, the other calls nothing
 admit-gains : (request info : List ℕ) (b : Book) (n place : ℕ) → Sound b → (n ≡ 0 → Admitted (b .registry) (setIsFull b) request)
     → place < length (b .registry .keys)
-    → keyAt (unlessRefused n (admitted request b) b .registry .keys) place .count
+    → keyAt (unlessRefused n (bookAdmitted request b) b .registry .keys) place .count
     ≡ keyAt (b .registry .keys) place .count
     + gain (admit request info) (ofAdmit (admitAnswer n (b .registry .lastTicket + 1) request)) (keyAt (b .registry .keys) place .id)
 unfolding number
@@ -60,13 +62,13 @@ admit-gains request info b zero place s accepted inside =
     (λ e.
     let here : named ≡ place =
     rw (← eqb-true (keyIdOf request) (keyAt keys place .id) e) at (place-of-id keys place (s .distinct) inside) in
-    rw (e, here, key-itself withUse place keys))
+    rw (e, with-key withUse (keyIdOf request) keys, here, key-itself withUse place keys))
     (λ e.
     let apart : place ≡ named → ⊥ =
     λ here. eqb-false (keyIdOf request) (keyAt keys place .id) e
     (sym (rw here (eqb-true (keyAt keys named .id) (keyIdOf request)
     (first-passes noKey (hasId (keyIdOf request)) keys (accepted refl .inside))))) in
-    rw (e, key-changed withUse named place keys apart) (omega arith))
+    rw (e, with-key withUse (keyIdOf request) keys, key-changed withUse named place keys apart) (omega arith))
 admit-gains request info b (suc n) place s accepted inside = rw (eqb·suc-zero n) (omega arith)
 
 no-gain : (n : ℕ) (accepted : Bool) (b c : Book) (place : ℕ)
@@ -80,11 +82,12 @@ gains : (b : Book) (call : Call) (place : ℕ) → Sound b → place < length (b
     ≡ keyAt (b .registry .keys) place .count + gain call (bookDoes b call .answer) (keyAt (b .registry .keys) place .id)
 unfolding bookDoes number
 gains b (admit request info) place s inside =
-    admit-gains request info b (admitNumber request info b) place s (admit-accepted (b .registry) (setIsFull b) request (length info)) inside
+    admit-gains request info b (bookAdmitNumber request info b) place s (admit-accepted (b .registry) (setIsFull b) request (length info)) inside
 gains b (retire id) place s inside =
-    no-gain (retireNumber id b) (eqb (number (bookDoes b (retire id) .answer)) 0) b (keyRetired id b) place
-    (number-kept (λ (key : Key). key .count) withRetirement (placeOfKey id (b .registry .keys)) place (b .registry .keys) refl)
-gains b (onTicket ticket step) place s inside = no-gain (ticketNumber ticket step b) (eqb (number (bookDoes b (onTicket ticket step) .answer)) 0) b (bookStepped ticket step b) place refl
+    no-gain (bookRetireNumber id b) (eqb (number (bookDoes b (retire id) .answer)) 0) b (bookRetired id b) place
+    (rw (with-key withRetirement id (b .registry .keys))
+    (number-kept (λ (key : Key). key .count) withRetirement (placeOfKey id (b .registry .keys)) place (b .registry .keys) refl))
+gains b (onTicket ticket step) place s inside = no-gain (bookStepNumber ticket step b) (eqb (number (bookDoes b (onTicket ticket step) .answer)) 0) b (bookStepped ticket step b) place refl
 gains b reporting place s inside = omega arith
 
 -- the counts along a history
@@ -121,7 +124,7 @@ counting-more first (suc n) =
 -- admit gives the next ticket, the other calls none
 admit-gives : (request : List ℕ) (b : Book) (n : ℕ)
     → countingFrom 1 (b .registry .lastTicket) ++ ticketsOf (ofAdmit (admitAnswer n (b .registry .lastTicket + 1) request))
-    ≡ countingFrom 1 (unlessRefused n (admitted request b) b .registry .lastTicket)
+    ≡ countingFrom 1 (unlessRefused n (bookAdmitted request b) b .registry .lastTicket)
 unfolding admissionsOf
 admit-gives request b zero =
     let next : b .registry .lastTicket + 1 ≡ 1 + b .registry .lastTicket = omega arith in
@@ -137,9 +140,9 @@ gives : (b : Book) (call : Call)
     → countingFrom 1 (b .registry .lastTicket) ++ ticketsOf (bookDoes b call .answer)
     ≡ countingFrom 1 (bookDoes b call .state .registry .lastTicket)
 unfolding bookDoes admissionsOf
-gives b (admit request info) = admit-gives request b (admitNumber request info b)
-gives b (retire id) = no-ticket (retireNumber id b) b (keyRetired id b) refl
-gives b (onTicket ticket step) = no-ticket (ticketNumber ticket step b) b (bookStepped ticket step b) refl
+gives b (admit request info) = admit-gives request b (bookAdmitNumber request info b)
+gives b (retire id) = no-ticket (bookRetireNumber id b) b (bookRetired id b) refl
+gives b (onTicket ticket step) = no-ticket (bookStepNumber ticket step b) b (bookStepped ticket step b) refl
 gives b reporting = append-nil (countingFrom 1 (b .registry .lastTicket))
 
 -- the tickets along a history

@@ -4,9 +4,12 @@ use Prim.Native.Nat.{ℕ}
 use mathlib.Core.Path.{_≡_, refl}
 use mathlib.Core.List.{List}
 use native.Mathlib.Omega.{arith}
+use borrow.Author.Tests.{le-ltb}
+use lib.Dec.{ltb}
 use Rattle.wire.proofs.Booleans.{either}
-use Rattle.keylist.specs.Layout.{Configuration, Outcome, good, bad, parse}
-use Rattle.keys.specs.Keys.{keyAt}
+use Rattle.wire.proofs.Matches.{any-none}
+use Rattle.keylist.specs.Layout.{Configuration, good, bad, parse, Result}
+use Rattle.keys.specs.Helpers.{noKey, keyAt}
 use Rattle.gateway.specs.Registry.{capHolds, withCap, registryFrom}
 use Rattle.gateway.specs.Gateway.{freshGateway}
 use Rattle.gateway.specs.Calls.{Call}
@@ -14,17 +17,17 @@ use Rattle.book.specs.Book.{freshBook, bookDoes}
 use Rattle.book.specs.History.{trace}
 use Rattle.book.specs.Demand3.{bookAfter}
 use Rattle.book.specs.Counts.{Counts, CountsHold, NothingWraps, countingFrom}
-use Rattle.book.proofs.KeyCounts.{same-id, same-length, fresh-count}
+use Rattle.book.proofs.KeyCounts.{same-id, same-length, fresh-count, each-key}
 use Rattle.book.proofs.Sound.{Sound, ticket-bound}
 use Rattle.book.proofs.Refinement.{fresh-alike, alike-after, refinement-holds}
 use Rattle.book.proofs.Counting.{ids-after, counted, given-after}
 
 -- at first counts and last ticket are 0
-fresh-counts : (o : Outcome (List Configuration)) (cap place : ℕ) → keyAt (registryFrom cap (withCap cap o) .keys) place .count ≡ 0
+fresh-counts : (o : Result (List Configuration)) (cap place : ℕ) → keyAt (registryFrom cap (withCap cap o) .keys) place .count ≡ 0
 fresh-counts (good cs) cap place = either (capHolds cap) (λ h. rw h (fresh-count cs place)) (λ h. rw h)
 fresh-counts (bad r) cap place = refl
 
-fresh-last : (o : Outcome (List Configuration)) (cap : ℕ) → registryFrom cap (withCap cap o) .lastTicket ≡ 0
+fresh-last : (o : Result (List Configuration)) (cap : ℕ) → registryFrom cap (withCap cap o) .lastTicket ≡ 0
 fresh-last (good cs) cap = either (capHolds cap) (λ h. rw h) (λ h. rw h)
 fresh-last (bad r) cap = refl
 
@@ -37,13 +40,16 @@ book-counts list cap calls start end =
     let keys = bookAfter list cap calls .registry .keys in
     let same = ids-after fresh calls in
     record {
-      admissions = λ place inside.
+      admissions =
+          each-key _ _ keys (λ place inside.
           rw (
             counted fresh calls place start (rw (same-length keys (fresh .registry .keys) same) at inside),
             same-id keys (fresh .registry .keys) place same,
             fresh-counts (parse list) cap place,
-          ) (omega arith);
-      withinCap = λ place inside. end .withinCap place;
+          ) (omega arith));
+      withinCap =
+          any-none noKey (λ key. ltb (bookAfter list cap calls .registry .cap) (key .count)) keys
+          (λ place inside. le-ltb _ _ (end .withinCap place));
       capBound = (end .capLeast, end .capBound);
       lastTicket = end .lastTicket;
       lastTicketBound = ticket-bound (bookAfter list cap calls) end;
@@ -58,5 +64,9 @@ counts-hold list cap calls =
 
 pub nothing-wraps : NothingWraps
 nothing-wraps list cap calls =
-    let c = counts-hold list cap calls in
-    (omega (arith, c .lastTicketBound), λ place inside. omega (arith, c .withinCap place inside, c .capBound .1))
+    let end = alike-after (freshGateway list cap) (freshBook list cap) calls (fresh-alike list cap) in
+    rw (end .registry) (record {
+      ticket = omega (arith, ticket-bound (bookAfter list cap calls) (end .sound));
+      counts = each-key _ _ (bookAfter list cap calls .registry .keys)
+          (λ place inside. omega (arith, end .sound .withinCap place, end .sound .capBound));
+    })

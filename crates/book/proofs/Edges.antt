@@ -2,20 +2,20 @@
 -- Assumes nothing.
 use mathlib.Core.Path.{refl}
 use Rattle.wire.specs.Texts.{ascii, requestLabel}
-use Rattle.wire.specs.Search.{firstPlace, anyPasses}
+use Rattle.wire.specs.Search.{firstPlace, firstThat, anyPasses}
 use Rattle.algorithms.specs.Table.{table, rowOf}
 use Rattle.algorithms.specs.Sizes.{knownKem, knownKdf, knownAead, encLength, publicKeyLength, keyLength}
 use Rattle.keylist.specs.Layout.{parse, parseFrom, layoutHolds, configurationAt, pairsAt}
 use Rattle.keylist.specs.Edges.{hex, edgeList}
 use Rattle.keylist.proofs.Edges.{list-edges}
-use Rattle.request.specs.Request.{requestRefusal}
 use Rattle.exchange.specs.Exchange.{leftIn}
 use Rattle.exchange.specs.Steps.{refusalBy, stepNumber}
-use Rattle.keys.specs.Keys.{keyRefusal, retireRefusal}
-use Rattle.keys.specs.Stored.{keysOf, storedKeys}
+use Rattle.keys.specs.Stored.{storedKeys}
+use Rattle.keys.specs.Keys.{keysOf, retireRefusal, withKey}
 use Rattle.gateway.specs.Registry.{admitRefusal}
-use Rattle.gateway.specs.Gateway.{freePlace, pendingIn}
-use Rattle.gateway.specs.Calls.{gatewayDoes, number}
+use Rattle.gateway.specs.Gateway.{freePlace, gatewayDoes}
+use Rattle.gateway.specs.View.{pendingIn}
+use Rattle.gateway.specs.Calls.{number}
 use Rattle.book.specs.History.{trace, final, filtered, admissionsOf}
 use Rattle.book.specs.Counts.{ticketsGiven}
 use Rattle.book.specs.Book.{bookDoes, replaced}
@@ -23,7 +23,7 @@ use Rattle.book.specs.Demand3.{withOwnCalls}
 use Rattle.book.specs.Edges.{GatewayEdges, MovedExample}
 
 pub gateway-edges : GatewayEdges
-unfolding ascii requestLabel firstPlace anyPasses table rowOf knownKem knownKdf knownAead encLength publicKeyLength keyLength parse parseFrom layoutHolds configurationAt pairsAt hex edgeList requestRefusal leftIn refusalBy keyRefusal retireRefusal keysOf storedKeys admitRefusal freePlace pendingIn gatewayDoes number trace final admissionsOf ticketsGiven stepNumber
+unfolding ascii requestLabel firstPlace anyPasses table rowOf knownKem knownKdf knownAead encLength publicKeyLength keyLength parse parseFrom layoutHolds configurationAt pairsAt hex edgeList leftIn refusalBy keysOf storedKeys admitRefusal freePlace pendingIn gatewayDoes number trace final admissionsOf ticketsGiven stepNumber firstThat retireRefusal withKey
 gateway-edges =
     record {
       lists = list-edges;
@@ -48,5 +48,5 @@ gateway-edges =
     }
 
 pub moved-example : MovedExample
-unfolding ascii requestLabel firstPlace anyPasses table rowOf knownKem knownKdf knownAead encLength publicKeyLength keyLength parse parseFrom layoutHolds configurationAt pairsAt hex edgeList requestRefusal leftIn refusalBy keyRefusal retireRefusal keysOf storedKeys admitRefusal freePlace pendingIn gatewayDoes number trace final admissionsOf ticketsGiven bookDoes replaced filtered withOwnCalls stepNumber
+unfolding ascii requestLabel firstPlace anyPasses table rowOf knownKem knownKdf knownAead encLength publicKeyLength keyLength parse parseFrom layoutHolds configurationAt pairsAt hex edgeList leftIn refusalBy keysOf storedKeys admitRefusal freePlace pendingIn gatewayDoes number trace final admissionsOf ticketsGiven bookDoes replaced filtered withOwnCalls stepNumber firstThat retireRefusal withKey
 moved-example = record { order = refl; sameAnswers = refl }

@@ -1,8 +1,8 @@
--- The counts and the ids of the keys, where one key is changed.
+-- The counts and the ids of the keys, where one key is changedAt.
 -- Assumes nothing.
-use Prim.Native.Nat.{ℕ, zero, suc, _+_, _*_, _≤_, _<_}
+use Prim.Native.Nat.{ℕ, zero, suc, _+_, _*_, _≤_, _<_, suc-le-suc}
 use mathlib.Core.Bool.{true}
-use mathlib.Core.Path.{_≡_, refl, ap, sym, _∙_}
+use mathlib.Core.Path.{_≡_, refl, ap, ap₂, sym, _∙_}
 use mathlib.Core.List.{List, [], _∷_, map}
 use native.Mathlib.Nat.{not-suc-le-zero, le-of-suc-le-suc}
 use native.Mathlib.Omega.{arith}
@@ -14,9 +14,11 @@ use Rattle.wire.specs.Search.{firstPlace, among}
 use Rattle.wire.proofs.Booleans.{either, true-or-false}
 use Rattle.wire.proofs.Matches.{among-at}
 use Rattle.keylist.specs.Layout.{Configuration}
-use Rattle.keys.specs.Keys.{Key, noKey, freshKey, placeOfKey, keyAt, changed, withUse, withRetirement}
+use Rattle.keys.specs.Keys.{Key, freshKey, withUse, withRetirement}
+use Rattle.keys.specs.Helpers.{placeOfKey, noKey, keyAt}
 use Rattle.gateway.specs.Registry.{mostUses}
 use Rattle.book.specs.Counts.{sumOfCounts}
+use Rattle.keys.proofs.Named.{changedAt}
 use Rattle.keys.proofs.Parsed.{Distinct}
 
 abbrev pub ids : List Key → List ℕ
@@ -37,43 +39,43 @@ unfolding sumOfCounts
 sum-bound [] h = omega arith
 sum-bound (k ∷ keys) h = omega (arith, h 0, sum-bound keys (λ place. h (suc place)))
 
--- the key at a place, where the one at another is changed
+-- the key at a place, where the one at another is changedAt
 pub key-changed : (change : Key → Key) (place other : ℕ) (keys : List Key) → (other ≡ place → ⊥)
-    → keyAt (changed change place keys) other ≡ keyAt keys other
+    → keyAt (changedAt change place keys) other ≡ keyAt keys other
 key-changed change place other keys apart = getD-set-other keys place other (change (keyAt keys place)) noKey apart
 
 pub key-itself : (change : Key → Key) (place : ℕ) (keys : List Key) → place < length keys
-    → keyAt (changed change place keys) place ≡ change (keyAt keys place)
+    → keyAt (changedAt change place keys) place ≡ change (keyAt keys place)
 key-itself change place keys h = getD-set-same keys place (change (keyAt keys place)) noKey h
 
 -- a number that the change leaves
 pub number-kept : (f : Key → ℕ) (change : Key → Key) (place other : ℕ) (keys : List Key)
-    → f (change (keyAt keys place)) ≡ f (keyAt keys place) → f (keyAt (changed change place keys) other) ≡ f (keyAt keys other)
+    → f (change (keyAt keys place)) ≡ f (keyAt keys place) → f (keyAt (changedAt change place keys) other) ≡ f (keyAt keys other)
 number-kept f change place other keys e =
-    sym (List·getD-map f (changed change place keys) other noKey)
+    sym (List·getD-map f (changedAt change place keys) other noKey)
     ∙ ap (λ (ns : List ℕ). getD ns other (f noKey)) (map-set-same f keys place (change (keyAt keys place)) noKey e)
     ∙ List·getD-map f keys other noKey
 
 -- no count is above the cap where one use more is given to a key that is below it
 pub used-within : (cap place : ℕ) (keys : List Key) → ((other : ℕ) → keyAt keys other .count ≤ cap) → place < length keys
-    → keyAt keys place .count < cap → (other : ℕ) → keyAt (changed withUse place keys) other .count ≤ cap
+    → keyAt keys place .count < cap → (other : ℕ) → keyAt (changedAt withUse place keys) other .count ≤ cap
 used-within cap place keys within inside below other =
     either (eqb other place)
     (λ e. rw (eqb-true other place e, key-itself withUse place keys) (omega arith))
     (λ e. rw (key-changed withUse place other keys (eqb-false other place e)) (within other))
 
 pub used-sum : (place : ℕ) (keys : List Key) → place < length keys
-    → sumOfCounts (changed withUse place keys) ≡ sumOfCounts keys + 1
+    → sumOfCounts (changedAt withUse place keys) ≡ sumOfCounts keys + 1
 used-sum place keys inside = omega (arith, sum-set keys place (withUse (keyAt keys place)) inside)
 
-pub used-ids : (place : ℕ) (keys : List Key) → ids (changed withUse place keys) ≡ ids keys
+pub used-ids : (place : ℕ) (keys : List Key) → ids (changedAt withUse place keys) ≡ ids keys
 used-ids place keys = map-set-same (λ (key : Key). key .id) keys place (withUse (keyAt keys place)) noKey refl
 
 -- a retirement leaves ids and counts
-pub retired-sum : (place : ℕ) (keys : List Key) → place < length keys → sumOfCounts (changed withRetirement place keys) ≡ sumOfCounts keys
+pub retired-sum : (place : ℕ) (keys : List Key) → place < length keys → sumOfCounts (changedAt withRetirement place keys) ≡ sumOfCounts keys
 retired-sum place keys inside = omega (arith, sum-set keys place (withRetirement (keyAt keys place)) inside)
 
-pub retired-ids : (place : ℕ) (keys : List Key) → ids (changed withRetirement place keys) ≡ ids keys
+pub retired-ids : (place : ℕ) (keys : List Key) → ids (changedAt withRetirement place keys) ≡ ids keys
 retired-ids place keys = map-set-same (λ (key : Key). key .id) keys place (withRetirement (keyAt keys place)) noKey refl
 
 -- the same ids: the same number of keys, and each has its id
@@ -115,3 +117,10 @@ pub fresh-sum : (cs : List Configuration) → sumOfCounts (map freshKey cs) ≡ 
 unfolding sumOfCounts
 fresh-sum [] = refl
 fresh-sum (c ∷ cs) = rw (fresh-sum cs)
+
+-- what holds of the key at each place holds along the list
+pub each-key : (f g : Key → ℕ) (keys : List Key) → ((place : ℕ) → place < length keys → f (keyAt keys place) ≡ g (keyAt keys place))
+    → map f keys ≡ map g keys
+each-key f g [] h = refl
+each-key f g (k ∷ keys) h =
+    ap₂ (λ (n : ℕ) (more : List ℕ). n ∷ more) (h 0 (omega arith)) (each-key f g keys (λ place l. h (suc place) (suc-le-suc l)))

@@ -13,34 +13,23 @@ use Rattle.wire.specs.Search.{firstPlace}
 use Rattle.wire.proofs.Booleans.{either, true-or-false}
 use Rattle.exchange.specs.declared.Exchange.{Exchange}
 use Rattle.exchange.specs.Exchange.{free, isFree, isAsked, hasTicket, exchangeOf}
-use Rattle.exchange.specs.Steps.{Step, refusal, next, after, closes}
+use Rattle.exchange.specs.Steps.{Step, refusal, next, closes}
 use Rattle.exchange.proofs.Moves.{next-not-asked, closed-free}
 use Rattle.exchange.proofs.Steps.{accepted-pending, free-refuses, not-asked-silent}
 use Rattle.gateway.specs.declared.Gateway.{Gateway}
-use Rattle.gateway.specs.Gateway.{freshGateway}
-use Rattle.gateway.specs.Calls.{Call, onTicket, number, unprotectedStatus, Done, gatewayDoes}
-use Rattle.book.specs.Book.{Book, freshBook, ticketNumber, bookDoes}
-use Rattle.book.specs.History.{final, gatewayAfter}
+use Rattle.gateway.specs.Gateway.{freshGateway, gatewayDoes}
+use Rattle.gateway.specs.Calls.{Call, onTicket, number, unprotectedStatus}
+use Rattle.book.specs.Book.{Book, freshBook, bookDoes, bookStepNumber}
+use Rattle.book.specs.History.{final, gatewayAfter, Accepts}
 use Rattle.book.specs.Demand3.{bookAfter}
-use Rattle.book.specs.Lifecycle.{holders, IsAccepted, LifecycleHolds}
+use Rattle.book.specs.Lifecycle.{holders, placeOfTicket, LifecycleHolds}
 use Rattle.book.proofs.Passing.{passing, passing-permuted}
 use Rattle.book.proofs.Table.{holding, holding-pending}
 use Rattle.book.proofs.Numbers.{step-number}
 use Rattle.book.proofs.Sound.{Sound}
 use Rattle.book.proofs.Refining.{Alike, found-told}
-use Rattle.book.proofs.Refinement.{fresh-alike, alike-after}
+use Rattle.book.proofs.Refinement.{final-append, alike-end}
 use Rattle.book.proofs.Tickets.{GivenHas, replaced-found, has-after}
-
--- one list of calls after another
-final-append : {State : Type 0} (does : State → Call → Done State) (s : State) (before later : List Call)
-    → final does s (before ++ later) ≡ final does (final does s before) later
-unfolding final
-final-append does s [] later = refl
-final-append does s (call ∷ before) later = final-append does (does s call .state) before later
-
--- gateway and book after the same calls
-alike-end : (list : List ℕ) (cap : ℕ) (calls : List Call) → Alike (gatewayAfter list cap calls) (bookAfter list cap calls)
-alike-end list cap calls = alike-after (freshGateway list cap) (freshBook list cap) calls (fresh-alike list cap)
 
 -- the number of exchanges that have a ticket, in a table and in a set that is alike
 holders-counted : (ticket : ℕ) (es : List Exchange) → length (holders ticket es) ≡ holding ticket es
@@ -70,7 +59,7 @@ none-found ticket (e ∷ es) h =
     (λ t. rw t (none-found ticket es (rw t at h)))
 
 -- a call on a ticket is accepted only where the ticket was given
-accepted-given : (ticket : ℕ) (step : Step) (b : Book) → Sound b → ticketNumber ticket step b ≡ 0 → ticket ≤ b .registry .lastTicket
+accepted-given : (ticket : ℕ) (step : Step) (b : Book) → Sound b → bookStepNumber ticket step b ≡ 0 → ticket ≤ b .registry .lastTicket
 accepted-given ticket step b s e =
     either (leb ticket (b .registry .lastTicket))
     (leb-true ticket (b .registry .lastTicket))
@@ -91,9 +80,9 @@ unfolding gatewayDoes
 step-told g ticket step = step-number step (exchangeOf ticket (g .table))
 
 -- a call on a ticket that the gateway accepts
-module _ (list : List ℕ) (cap : ℕ) (calls : List Call) (ticket : ℕ) (step : Step) (accepted : IsAccepted list cap calls ticket step) where
+module _ (list : List ℕ) (cap : ℕ) (calls : List Call) (ticket : ℕ) (step : Step) (accepted : Accepts list cap calls (onTicket ticket step)) where
   -- is accepted by the book
-  book-accepts : ticketNumber ticket step (bookAfter list cap calls) ≡ 0
+  book-accepts : bookStepNumber ticket step (bookAfter list cap calls) ≡ 0
   book-accepts =
       rw (← found-told ticket _ _ (alike-end list cap calls)) (sym (step-told (gatewayAfter list cap calls) ticket step) ∙ accepted)
 
@@ -123,7 +112,7 @@ module _ (list : List ℕ) (cap : ℕ) (calls : List Call) (ticket : ℕ) (step 
       (rw (closed-free (step .kind) (exchangeOf ticket (bookAfter list cap calls .pending)) closing))
 
   -- the exchange stands in the table
-  place-inside : firstPlace (hasTicket ticket) (gatewayAfter list cap calls .table) < length (gatewayAfter list cap calls .table)
+  place-inside : placeOfTicket ticket (gatewayAfter list cap calls .table) < length (gatewayAfter list cap calls .table)
   place-inside =
       let table = gatewayAfter list cap calls .table in
       let place = firstPlace (hasTicket ticket) table in
@@ -134,14 +123,13 @@ module _ (list : List ℕ) (cap : ℕ) (calls : List Call) (ticket : ℕ) (step 
   -- and the place where the exchange stood is free
   place-free : closes (step .kind) ≡ true
       → getD (gatewayAfter list cap (calls ++ onTicket ticket step ∷ []) .table)
-      (firstPlace (hasTicket ticket) (gatewayAfter list cap calls .table)) free
+      (placeOfTicket ticket (gatewayAfter list cap calls .table)) free
       ≡ free
   unfolding final gatewayDoes
   place-free closing =
       let g = gatewayAfter list cap calls in
       let e = exchangeOf ticket (g .table) in
-      let free-after : after step e ≡ free = rw (sym (step-told g ticket step) ∙ accepted) (closed-free (step .kind) e closing) in
-      rw (final-append gatewayDoes (freshGateway list cap) calls (onTicket ticket step ∷ []), free-after)
+      rw (final-append gatewayDoes (freshGateway list cap) calls (onTicket ticket step ∷ []), sym (step-told g ticket step) ∙ accepted, closed-free (step .kind) e closing)
       (place-freed (g .table) (firstPlace (hasTicket ticket) (g .table)))
 
 pub lifecycle-holds : LifecycleHolds

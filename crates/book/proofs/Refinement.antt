@@ -3,19 +3,21 @@
 use Prim.Native.Nat.{ℕ}
 use mathlib.Core.Bool.{true}
 use mathlib.Core.Path.{_≡_, refl}
-use mathlib.Core.List.{List, [], _∷_, map, List·Permᴰ·nil}
+use mathlib.Core.List.{List, [], _∷_, _++_, map, List·Permᴰ·nil}
 use Rattle.wire.proofs.Booleans.{either}
-use Rattle.keylist.specs.Layout.{Configuration, Outcome, good, bad, parse}
+use Rattle.keylist.specs.Layout.{Configuration, good, bad, parse, Result}
 use Rattle.keys.specs.declared.Keys.{Keys}
-use Rattle.keys.specs.Stored.{keysFrom, keysOf, storedKeys}
-use Rattle.keys.specs.Keys.{freshKey}
+use Rattle.keys.specs.Stored.{storedKeys}
+use Rattle.keys.specs.Helpers.{keysFrom}
+use Rattle.keys.specs.Keys.{freshKey, keysOf}
 use Rattle.gateway.specs.declared.Gateway.{Gateway}
 use Rattle.gateway.specs.Registry.{Registry, capHolds, withCap, registryFrom}
-use Rattle.gateway.specs.Gateway.{registryOf, pendingIn, emptyGateway, gatewayFrom, freshGateway}
-use Rattle.gateway.specs.Calls.{Call, gatewayDoes}
+use Rattle.gateway.specs.Gateway.{emptyGateway, gatewayFrom, freshGateway, gatewayDoes}
+use Rattle.gateway.specs.View.{registryOf, pendingIn}
+use Rattle.gateway.specs.Calls.{Call, Done}
 use Rattle.book.specs.Book.{Book, freshBook, bookDoes}
-use Rattle.book.specs.History.{trace, final}
-use Rattle.book.specs.Demand3.{RefinementHolds}
+use Rattle.book.specs.History.{trace, final, gatewayAfter}
+use Rattle.book.specs.Demand3.{bookAfter, RefinementHolds}
 use Rattle.keys.proofs.Views.{parsed-view, stored-view}
 use Rattle.book.proofs.Sound.{Sound, refused-sound, ready-sound}
 use Rattle.book.proofs.Refining.{Alike, same-answer, same-buffer, alike-kept}
@@ -42,7 +44,7 @@ ready-alike list cap cs e h =
 pub fresh-alike : (list : List ℕ) (cap : ℕ) → Alike (freshGateway list cap) (freshBook list cap)
 fresh-alike list cap = fresh (parse list) refl
   where
-    fresh : (o : Outcome (List Configuration)) → parse list ≡ o
+    fresh : (o : Result (List Configuration)) → parse list ≡ o
         → Alike (gatewayFrom cap (withCap cap o)) (record { registry = registryFrom cap (withCap cap o); pending = [] })
     fresh (good cs) e = either (capHolds cap) (λ h. rw h (ready-alike list cap cs e h)) (λ h. rw h refused-alike)
     fresh (bad r) e = refused-alike
@@ -63,6 +65,17 @@ unfolding final
 alike-after g b [] r = r
 alike-after g b (call ∷ calls) r =
     alike-after (gatewayDoes g call .state) (bookDoes b call .state) calls (alike-kept g b call r)
+
+-- one list of calls after another
+pub final-append : {State : Type 0} (does : State → Call → Done State) (s : State) (before later : List Call)
+    → final does s (before ++ later) ≡ final does (final does s before) later
+unfolding final
+final-append does s [] later = refl
+final-append does s (call ∷ before) later = final-append does (does s call .state) before later
+
+-- gateway and book after the same calls
+pub alike-end : (list : List ℕ) (cap : ℕ) (calls : List Call) → Alike (gatewayAfter list cap calls) (bookAfter list cap calls)
+alike-end list cap calls = alike-after (freshGateway list cap) (freshBook list cap) calls (fresh-alike list cap)
 
 pub refinement-holds : RefinementHolds
 refinement-holds list cap calls =

@@ -5,25 +5,24 @@ use mathlib.Core.Path.{_≡_, refl, ap, sym, _∙_}
 use mathlib.Core.List.{List, [], _∷_, List·Permᴰ, List·Permᴰ·trans, Permᴰ·append-right}
 use native.Mathlib.Omega.{arith}
 use borrow.Author.Tests.{ne-eqb}
-use lib.ListN.{length, getD, set, length-set}
-use lib.Seq.{set-getD}
+use lib.ListN.{length, length-set}
 use Rattle.wire.specs.Refusals.{unlessRefused}
-use Rattle.wire.specs.Search.{firstPlace}
 use Rattle.book.proofs.Placing.{place-inside, place-free}
-use Rattle.exchange.specs.declared.Exchange.{Exchange}
 use Rattle.request.specs.Request.{keyIdOf, fieldsOf}
-use Rattle.exchange.specs.Exchange.{free, hasTicket, exchangeOf, asked}
+use Rattle.exchange.specs.Exchange.{hasTicket, exchangeOf, asked}
 use Rattle.exchange.specs.Steps.{Step, next}
-use Rattle.keys.specs.Keys.{placeOfKey}
-use Rattle.keys.specs.Stored.{keysOf}
+use Rattle.keys.specs.Helpers.{placeOfKey}
+use Rattle.keys.specs.Keys.{keysOf, withUse, withRetirement}
 use Rattle.gateway.specs.declared.Gateway.{Gateway}
-use Rattle.gateway.specs.Registry.{Registry}
-use Rattle.gateway.specs.Gateway.{tableSize, registryOf, pendingIn, freePlace, nextTicket, isFull, retiredGateway, withExchange, admitted as gatewayAdmitted}
-use Rattle.gateway.specs.Calls.{Call, admit, retire, onTicket, reporting, gatewayDoes, admitNumber as gatewayAdmitNumber, retireNumber as gatewayRetireNumber}
-use Rattle.book.specs.Book.{Book, setIsFull, admitted, keyRetired, bookStepped, admitNumber, retireNumber, ticketNumber, bookDoes}
+use Rattle.gateway.specs.Registry.{Registry, tableSize}
+use Rattle.gateway.specs.Gateway.{freePlace, nextTicket, isFull, gatewayAdmitted, gatewayRetired, gatewayStepped, gatewayAdmitNumber, gatewayRetireNumber, gatewayStepNumber, gatewayDoes}
+use Rattle.gateway.specs.View.{registryOf, pendingIn}
+use Rattle.gateway.specs.Calls.{Call, admit, retire, onTicket, reporting}
+use Rattle.book.specs.Book.{Book, setIsFull, bookStepped, bookDoes, bookAdmitted, bookRetired, bookAdmitNumber, bookRetireNumber, bookStepNumber}
 use Rattle.book.proofs.Passing.{passing-permuted, length-permuted}
 use Rattle.book.proofs.Table.{holding-pending, found-permuted, found-pending, full-alike, replaced-permuted, replaced-in-table, admitted-in-table}
 use Rattle.book.proofs.Accepting.{retire-accepted, Admitted, admit-accepted}
+use Rattle.keys.proofs.Named.{with-key}
 use Rattle.keys.proofs.Views.{used-view, retired-view}
 use Rattle.book.proofs.Sound.{Sound, ticket-bound, admitted-sound, retired-sound, moved-sound}
 
@@ -57,11 +56,14 @@ next-told : (g : Gateway) (b : Book) → Alike g b → nextTicket g ≡ b .regis
 next-told g b r = omega (arith, ticket-bound b (r .sound), last-alike g b r)
 
 admit-told : (request info : List ℕ) (g : Gateway) (b : Book) → Alike g b
-    → gatewayAdmitNumber request info g ≡ admitNumber request info b
+    → gatewayAdmitNumber request info g ≡ bookAdmitNumber request info b
 admit-told request info g b r = rw (r .registry, full-told g b r)
 
-retire-told : (id : ℕ) (g : Gateway) (b : Book) → Alike g b → gatewayRetireNumber id g ≡ retireNumber id b
+retire-told : (id : ℕ) (g : Gateway) (b : Book) → Alike g b → gatewayRetireNumber id g ≡ bookRetireNumber id b
 retire-told id g b r = rw (keys-alike g b r)
+
+step-told : (ticket : ℕ) (step : Step) (g : Gateway) (b : Book) → Alike g b → gatewayStepNumber ticket step g ≡ bookStepNumber ticket step b
+step-told ticket step g b r = rw (found-told ticket g b r)
 
 -- the answers
 pub same-answer : (g : Gateway) (b : Book) (call : Call) → Alike g b → gatewayDoes g call .answer ≡ bookDoes b call .answer
@@ -81,7 +83,7 @@ same-buffer g b reporting r = refl
 
 -- an accepted admit keeps them alike
 admitted-alike : (request : List ℕ) (g : Gateway) (b : Book) → Alike g b → Admitted (b .registry) (setIsFull b) request
-    → Alike (gatewayAdmitted request g) (admitted request b)
+    → Alike (gatewayAdmitted request g) (bookAdmitted request b)
 admitted-alike request g b r a =
     let new = asked (b .registry .lastTicket + 1) (fieldsOf request) in
     let room = full-told g b r ∙ a .room in
@@ -92,6 +94,7 @@ admitted-alike request g b r a =
             used-view (g .keys) (placeOfKey (keyIdOf request) (keysOf (g .keys)))
                 (rw (keys-alike g b r) (a .inside)) (rw (keys-alike g b r) (omega (arith, a .below, r .sound .capBound))),
             keys-alike g b r,
+            ← with-key withUse (keyIdOf request) (b .registry .keys),
             next-told g b r,
             cap-alike g b r,
           );
@@ -106,7 +109,7 @@ admitted-alike request g b r a =
 
 -- an accepted retire does
 retired-alike : (id : ℕ) (g : Gateway) (b : Book) → Alike g b → placeOfKey id (b .registry .keys) < length (b .registry .keys)
-    → Alike (retiredGateway id g) (keyRetired id b)
+    → Alike (gatewayRetired id g) (bookRetired id b)
 retired-alike id g b r inside =
     record {
       sound = retired-sound id b (r .sound) inside;
@@ -114,6 +117,7 @@ retired-alike id g b r inside =
           rw (
             retired-view (g .keys) (placeOfKey id (keysOf (g .keys))) (rw (keys-alike g b r) inside),
             keys-alike g b r,
+            ← with-key withRetirement id (b .registry .keys),
             last-alike g b r,
             cap-alike g b r,
           );
@@ -122,9 +126,8 @@ retired-alike id g b r inside =
     }
 
 -- an accepted call on a ticket does
-moved-alike : (ticket : ℕ) (step : Step) (g : Gateway) (b : Book) → Alike g b → ticketNumber ticket step b ≡ 0
-    → Alike (withExchange (firstPlace (hasTicket ticket) (g .table)) (next step (exchangeOf ticket (b .pending))) g)
-    (bookStepped ticket step b)
+moved-alike : (ticket : ℕ) (step : Step) (g : Gateway) (b : Book) → Alike g b → bookStepNumber ticket step b ≡ 0
+    → Alike (gatewayStepped ticket step g) (bookStepped ticket step b)
 moved-alike ticket step g b r accepted =
     let new = next step (exchangeOf ticket (b .pending)) in
     record {
@@ -132,8 +135,11 @@ moved-alike ticket step g b r accepted =
       registry = r .registry;
       places = rw length-set (r .places);
       pending =
-          rw (replaced-in-table ticket new (g .table)
-          (rw (← holding-pending ticket (g .table), passing-permuted (hasTicket ticket) (r .pending)) (r .sound .once ticket)))
+          rw (
+            found-told ticket g b r,
+            replaced-in-table ticket new (g .table)
+                (rw (← holding-pending ticket (g .table), passing-permuted (hasTicket ticket) (r .pending)) (r .sound .once ticket)),
+          )
           (replaced-permuted ticket new (r .pending));
     }
 
@@ -143,29 +149,17 @@ unless-alike : (n : ℕ) {g h : Gateway} {b c : Book} → (n ≡ 0 → Alike h c
 unless-alike zero accepted refused = accepted refl
 unless-alike (suc n) accepted refused = refused
 
--- so does a call on a ticket: refused, it puts back what stood in the place
-step-alike : (n place : ℕ) (new old : Exchange) (g : Gateway) {b c : Book} → old ≡ getD (g .table) place free
-    → (n ≡ 0 → Alike (withExchange place new g) c) → Alike g b
-    → Alike (withExchange place (unlessRefused n new old) g) (unlessRefused n c b)
-step-alike zero place new old g e accepted r = accepted refl
-step-alike (suc n) place new old g e accepted r =
-    let same : set (g .table) place old ≡ g .table = rw e (set-getD (g .table) place free) in
-    record { sound = r .sound; registry = r .registry; places = rw same (r .places); pending = rw same (r .pending) }
-
 -- every call does
 pub alike-kept : (g : Gateway) (b : Book) (call : Call) → Alike g b → Alike (gatewayDoes g call .state) (bookDoes b call .state)
 unfolding gatewayDoes bookDoes
 alike-kept g b (admit request info) r =
     rw (admit-told request info g b r)
-    (unless-alike (admitNumber request info b)
+    (unless-alike (bookAdmitNumber request info b)
     (λ e. admitted-alike request g b r (admit-accepted (b .registry) (setIsFull b) request (length info) e)) r)
 alike-kept g b (retire id) r =
     rw (retire-told id g b r)
-    (unless-alike (retireNumber id b)
-    (λ e. retired-alike id g b r (retire-accepted (b .registry .keys) (placeOfKey id (b .registry .keys)) e)) r)
+    (unless-alike (bookRetireNumber id b)
+    (λ e. retired-alike id g b r (retire-accepted id (b .registry .keys) e)) r)
 alike-kept g b (onTicket ticket step) r =
-    let found = exchangeOf ticket (b .pending) in
-    rw (found-told ticket g b r)
-    (step-alike (ticketNumber ticket step b) (firstPlace (hasTicket ticket) (g .table)) (next step found) found g
-    (sym (found-told ticket g b r)) (moved-alike ticket step g b r) r)
+    rw (step-told ticket step g b r) (unless-alike (bookStepNumber ticket step b) (moved-alike ticket step g b r) r)
 alike-kept g b reporting r = r

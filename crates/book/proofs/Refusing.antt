@@ -1,45 +1,47 @@
--- A refused call changes neither the gateway nor the buffer that it lends.
+-- A refused call changes neither the gateway nor the buffer that it lends; a refused setup hands back a gateway without keys.
 -- Assumes nothing.
-use mathlib.Core.Path.{_≡_, refl, sym, ap, _∙_}
+use mathlib.Core.Path.{_≡_, refl, sym, _∙_}
+use mathlib.Core.List.{List, []}
 use Prim.Native.Nat.{ℕ}
-use lib.ListN.{getD}
-use lib.Seq.{set-getD}
-use Rattle.wire.specs.Search.{firstPlace}
+use native.Mathlib.Omega.{arith}
+use Rattle.wire.specs.Refusals.{IsRefused}
 use Rattle.wire.proofs.Numbers.{unless-refused}
-use Rattle.exchange.specs.declared.Exchange.{Exchange}
-use Rattle.exchange.specs.Exchange.{free, hasTicket, exchangeOf}
-use Rattle.exchange.specs.Steps.{Step, refusal, buffer}
+use Rattle.keylist.specs.Layout.{Configuration, Result, good, bad}
+use Rattle.exchange.specs.Exchange.{exchangeOf}
+use Rattle.keys.proofs.Views.{stored-view}
 use Rattle.gateway.specs.declared.Gateway.{Gateway}
-use Rattle.gateway.specs.Gateway.{withExchange, stepped, nextTicket}
-use Rattle.gateway.specs.Calls.{admit, retire, onTicket, reporting, number, gatewayDoes, admitNumber, retireNumber}
-use Rattle.book.specs.OneCall.{RefusalChangesNothing}
+use Rattle.gateway.specs.declared.SetupAnswer.{SetupAnswer}
+use Rattle.gateway.specs.Registry.{setup, setupAnswer}
+use Rattle.gateway.specs.View.{registryOf, pendingIn}
+use Rattle.gateway.specs.Gateway.{gatewayFrom, nextTicket, gatewayDoes, gatewayAdmitNumber, gatewayRetireNumber}
+use Rattle.gateway.specs.Calls.{Call, admit, retire, onTicket, reporting, number}
+use Rattle.book.specs.OneCall.{lent, RefusalChangesNothing}
 use Rattle.book.proofs.Numbers.{admit-number, retire-number, step-number}
-
--- a gateway with the exchange that it has at a place
-same-exchange : (g : Gateway) (place : ℕ) → withExchange place (getD (g .table) place free) g ≡ g
-same-exchange g place = rw (set-getD (g .table) place free)
-
-pub refused-gateway : (g : Gateway) (ticket : ℕ) (step : Step) → (refusal step (exchangeOf ticket (g .table)) ≡ 0 → ⊥)
-    → stepped ticket step g ≡ g
-refused-gateway g ticket step h =
-    ap (λ (e : Exchange). withExchange (firstPlace (hasTicket ticket) (g .table)) e g) (sym (unless-refused (refusal step (exchangeOf ticket (g .table))) _ (exchangeOf ticket (g .table)) h))
-    ∙ same-exchange g (firstPlace (hasTicket ticket) (g .table))
-
-pub refused-buffer : (step : Step) (e : Exchange) → (refusal step e ≡ 0 → ⊥) → buffer step e ≡ step .salt
-refused-buffer step e h = sym (unless-refused (refusal step e) _ (step .salt) h)
 
 -- what is not 0 under one name is not 0 under another
 differs : {a b : ℕ} → a ≡ b → (a ≡ 0 → ⊥) → b ≡ 0 → ⊥
 differs e h z = h (e ∙ z)
 
-pub refusal-changes-nothing : RefusalChangesNothing
+-- a refused call
+refused-call : (g : Gateway) (call : Call) → (number (gatewayDoes g call .answer) ≡ 0 → ⊥)
+    → (gatewayDoes g call .state ≡ g) × (gatewayDoes g call .buffer ≡ lent call)
 unfolding gatewayDoes number
-refusal-changes-nothing g (admit request info) h =
-    let refuses = differs (admit-number (admitNumber request info g) (nextTicket g) request) h in
+refused-call g (admit request info) h =
+    let refuses = differs (admit-number (gatewayAdmitNumber request info g) (nextTicket g) request) h in
     (sym (unless-refused _ _ g refuses), sym (unless-refused _ _ info refuses))
-refusal-changes-nothing g (retire id) h =
-    (sym (unless-refused _ _ g (differs (retire-number (retireNumber id g)) h)), refl)
-refusal-changes-nothing g (onTicket ticket step) h =
+refused-call g (retire id) h =
+    (sym (unless-refused _ _ g (differs (retire-number (gatewayRetireNumber id g)) h)), refl)
+refused-call g (onTicket ticket step) h =
     let refuses = differs (step-number step (exchangeOf ticket (g .table))) h in
-    (refused-gateway g ticket step refuses, refused-buffer step (exchangeOf ticket (g .table)) refuses)
-refusal-changes-nothing g reporting h = absurd (h refl)
+    (sym (unless-refused _ _ g refuses), sym (unless-refused _ _ (step .salt) refuses))
+refused-call g reporting h = absurd (h refl)
+
+-- a refused setup
+refused-setup : (cap : ℕ) (read : Result (List Configuration)) → IsRefused SetupAnswer.Refused (setupAnswer read)
+    → (registryOf (gatewayFrom cap read) ≡ record { cap = 1; lastTicket = 0; keys = [] }) × (pendingIn (gatewayFrom cap read .table) ≡ [])
+unfolding pendingIn
+refused-setup cap (good cs) h = absurd (let z : _≡_ {A = ℕ} 0 1 = cc (h .1) in omega arith)
+refused-setup cap (bad r) h = (rw (stored-view []), refl)
+
+pub refusal-changes-nothing : RefusalChangesNothing
+refusal-changes-nothing = record { ofCall = refused-call; ofSetup = λ list cap h. refused-setup cap (setup list cap) h }

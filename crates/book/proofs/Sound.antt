@@ -13,16 +13,18 @@ use Rattle.keylist.specs.Layout.{Configuration, mostConfigurations, good, parse
 use Rattle.request.specs.Request.{keyIdOf, fieldsOf}
 use Rattle.exchange.specs.Exchange.{exchangeOf, asked}
 use Rattle.exchange.specs.Steps.{Step, next, leaves}
-use Rattle.keys.specs.Keys.{Key, placeOfKey, keyAt, freshKey, withRetirement}
+use Rattle.keys.specs.Keys.{Key, freshKey, withRetirement, withUse}
+use Rattle.keys.specs.Helpers.{placeOfKey, keyAt}
 use Rattle.gateway.specs.Registry.{capHolds, mostUses}
 use Rattle.gateway.specs.Calls.{Call, admit, retire, onTicket, reporting}
-use Rattle.book.specs.Book.{Book, setIsFull, admitted, keyRetired, bookStepped, admitNumber, retireNumber, ticketNumber, bookDoes}
+use Rattle.book.specs.Book.{Book, setIsFull, bookStepped, bookDoes, bookAdmitted, bookRetired, bookAdmitNumber, bookRetireNumber, bookStepNumber}
 use Rattle.book.specs.Counts.{sumOfCounts}
 use Rattle.book.proofs.Passing.{passing, passing-append}
 use Rattle.book.proofs.Table.{holding, holding-one, holding-other, holding-replaced, found-has}
 use Rattle.book.proofs.Accepting.{unless-kept, retire-accepted, Admitted, admit-accepted}
 use Rattle.exchange.proofs.Moves.{next-ticket}
 use Rattle.exchange.proofs.Steps.{accepted-pending}
+use Rattle.keys.proofs.Named.{with-key}
 use Rattle.keys.proofs.Parsed.{Distinct}
 use Rattle.keys.proofs.Views.{parsed-view, parsed-distinct}
 use Rattle.book.proofs.KeyCounts.{ids, sum-bound, fresh-ids, fresh-count, fresh-sum, used-within, used-sum, used-ids, number-kept, retired-sum, retired-ids}
@@ -44,17 +46,18 @@ pub ticket-bound : (b : Book) → Sound b → b .registry .lastTicket ≤ 160000
 ticket-bound b s = omega (arith, sum-bound (b .registry .keys) (λ place. omega (arith, s .withinCap place)))
 
 -- after an accepted admit
-pub admitted-sound : (request : List ℕ) (b : Book) → Sound b → Admitted (b .registry) (setIsFull b) request → Sound (admitted request b)
+pub admitted-sound : (request : List ℕ) (b : Book) → Sound b → Admitted (b .registry) (setIsFull b) request → Sound (bookAdmitted request b)
 admitted-sound request b s a =
     let place = placeOfKey (keyIdOf request) (b .registry .keys) in
+    let keys = with-key withUse (keyIdOf request) (b .registry .keys) in
     let new = asked (b .registry .lastTicket + 1) (fieldsOf request) in
     record {
       capLeast = s .capLeast;
       capBound = s .capBound;
-      keysBound = rw length-set (s .keysBound);
-      withinCap = used-within (b .registry .cap) place (b .registry .keys) (s .withinCap) (a .inside) (a .below);
-      distinct = rw used-ids (s .distinct);
-      lastTicket = rw (used-sum, a .inside) (omega arith);
+      keysBound = rw (keys, length-set) (s .keysBound);
+      withinCap = rw keys (used-within (b .registry .cap) place (b .registry .keys) (s .withinCap) (a .inside) (a .below));
+      distinct = rw (keys, used-ids) (s .distinct);
+      lastTicket = rw (keys, used-sum, a .inside) (omega arith);
       once = λ ticket.
           rw passing-append
           (either (eqb (new .ticket .0) ticket)
@@ -66,23 +69,24 @@ admitted-sound request b s a =
     }
 
 -- after an accepted retire
-pub retired-sound : (id : ℕ) (b : Book) → Sound b → placeOfKey id (b .registry .keys) < length (b .registry .keys) → Sound (keyRetired id b)
+pub retired-sound : (id : ℕ) (b : Book) → Sound b → placeOfKey id (b .registry .keys) < length (b .registry .keys) → Sound (bookRetired id b)
 retired-sound id b s inside =
     let keys = b .registry .keys in
+    let marked = with-key withRetirement id keys in
     record {
       capLeast = s .capLeast;
       capBound = s .capBound;
-      keysBound = rw length-set (s .keysBound);
+      keysBound = rw (marked, length-set) (s .keysBound);
       withinCap = λ place.
-          rw (number-kept (λ (key : Key). key .count) withRetirement (placeOfKey id keys) place keys refl) (s .withinCap place);
-      distinct = rw retired-ids (s .distinct);
-      lastTicket = rw retired-sum (s .lastTicket);
+          rw (marked, number-kept (λ (key : Key). key .count) withRetirement (placeOfKey id keys) place keys refl) (s .withinCap place);
+      distinct = rw (marked, retired-ids) (s .distinct);
+      lastTicket = rw (marked, retired-sum) (s .lastTicket);
       once = s .once;
       given = s .given;
     }
 
 -- after an accepted call on a ticket
-pub moved-sound : (ticket : ℕ) (step : Step) (b : Book) → Sound b → ticketNumber ticket step b ≡ 0 → Sound (bookStepped ticket step b)
+pub moved-sound : (ticket : ℕ) (step : Step) (b : Book) → Sound b → bookStepNumber ticket step b ≡ 0 → Sound (bookStepped ticket step b)
 moved-sound ticket step b s accepted =
     let e = exchangeOf ticket (b .pending) in
     let fewer : (other : ℕ) → holding other (bookStepped ticket step b .pending) ≤ holding other (b .pending) =
@@ -103,13 +107,13 @@ moved-sound ticket step b s accepted =
 pub sound-kept : (b : Book) (call : Call) → Sound b → Sound (bookDoes b call .state)
 unfolding bookDoes
 sound-kept b (admit request info) s =
-    unless-kept Sound (admitNumber request info b)
+    unless-kept Sound (bookAdmitNumber request info b)
     (λ e. admitted-sound request b s (admit-accepted (b .registry) (setIsFull b) request (length info) e)) s
 sound-kept b (retire id) s =
-    unless-kept Sound (retireNumber id b)
-    (λ e. retired-sound id b s (retire-accepted (b .registry .keys) (placeOfKey id (b .registry .keys)) e)) s
+    unless-kept Sound (bookRetireNumber id b)
+    (λ e. retired-sound id b s (retire-accepted id (b .registry .keys) e)) s
 sound-kept b (onTicket ticket step) s =
-    unless-kept Sound (ticketNumber ticket step b) (moved-sound ticket step b s) s
+    unless-kept Sound (bookStepNumber ticket step b) (moved-sound ticket step b s) s
 sound-kept b reporting s = s
 
 -- after setup, refused and accepted

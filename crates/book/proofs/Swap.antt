@@ -1,7 +1,7 @@
 -- Two accepted calls on the book, the second of them on a ticket that the first neither calls nor gives: they can change places.
 -- Assumes nothing.
 use Prim.Native.Nat.{ℕ, zero, suc, _+_, _≤_}
-use mathlib.Core.Path.{_≡_, refl}
+use mathlib.Core.Path.{_≡_, refl, sym, _∙_}
 use mathlib.Core.Bool.{Bool, true, false}
 use mathlib.Core.List.{List, [], _∷_, _++_}
 use native.Mathlib.Omega.{arith}
@@ -11,13 +11,15 @@ use lib.ListN.{length}
 use Rattle.wire.specs.Search.{among}
 use Rattle.wire.proofs.Booleans.{true-or-false}
 use Rattle.exchange.specs.declared.Exchange.{Exchange}
-use Rattle.request.specs.Request.{keyIdOf, fieldsOf, requestRefusal}
+use Rattle.request.specs.Request.{keyIdOf, fieldsOf}
+use Rattle.request.specs.Helpers.{requestRefusal}
 use Rattle.exchange.specs.Exchange.{hasTicket, exchangeOf, asked}
 use Rattle.exchange.specs.Steps.{Step, next}
-use Rattle.keys.specs.Keys.{placeOfKey, keyRefusal}
-use Rattle.gateway.specs.Registry.{Registry, admitRefusal, _orElse_}
-use Rattle.gateway.specs.Gateway.{tableSize}
+use Rattle.keys.specs.Helpers.{placeOfKey, keyRefusal}
+use Rattle.gateway.specs.Registry.{Registry, admitRefusal, tableSize}
+use Rattle.gateway.specs.Helpers.{_orElse_}
 use Rattle.gateway.specs.Calls.{Call, admit, retire, onTicket, reporting}
+use Rattle.gateway.proofs.Deciding.{admit-order}
 use Rattle.book.specs.Book.{Book, replaced}
 use Rattle.book.specs.History.{event}
 use Rattle.book.specs.Demand3.{isOn}
@@ -40,10 +42,9 @@ never-nine (suc n) m e = omega arith
 
 -- an accepted admission found a place
 has-place : (registry : Registry) (full : Bool) (request : List ℕ) (room : ℕ) → admitRefusal registry full request room ≡ 0 → full ≡ false
-unfolding admitRefusal
 has-place registry true request room e =
     let key = keyRefusal (registry .cap) (registry .keys) (placeOfKey (keyIdOf request) (registry .keys)) (fieldsOf request) in
-    absurd (never-nine (requestRefusal request) key e)
+    absurd (never-nine (requestRefusal request) key (sym (admit-order registry true request room) ∙ e))
 has-place registry false request room e = refl
 
 -- so it finds one among fewer

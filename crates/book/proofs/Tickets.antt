@@ -14,7 +14,7 @@ use Rattle.request.specs.Request.{fieldsOf}
 use Rattle.exchange.specs.Exchange.{free, isFree, hasTicket, exchangeOf, asked}
 use Rattle.exchange.specs.Steps.{Step, refusal, next}
 use Rattle.gateway.specs.Calls.{Call, admit, retire, onTicket, reporting}
-use Rattle.book.specs.Book.{Book, replaced, admitNumber, retireNumber, ticketNumber, bookDoes}
+use Rattle.book.specs.Book.{Book, replaced, bookDoes, bookAdmitNumber, bookRetireNumber, bookStepNumber}
 use Rattle.book.specs.History.{final}
 use Rattle.book.proofs.Accepting.{unless-kept}
 use Rattle.book.proofs.Pending.{asked-other, next-other, exchange-behind, exchange-beside}
@@ -46,16 +46,16 @@ module _ (P : Exchange → Type 0) (none : P free) where
     has-kept b (admit request info) h =
         let new = b .registry .lastTicket + 1 in
         let other = asked-other ticket new (fieldsOf request) (omega (arith, h .given)) in
-        unless-kept (GivenHas P ticket) (admitNumber request info b)
+        unless-kept (GivenHas P ticket) (bookAdmitNumber request info b)
         (λ e. record {
           given = omega (arith, h .given);
           found = rw (exchange-behind ticket (asked new (fieldsOf request)) other (b .pending)) (h .found);
         }) h
     has-kept b (retire id) h =
-        unless-kept (GivenHas P ticket) (retireNumber id b) (λ e. record { given = h .given; found = h .found }) h
+        unless-kept (GivenHas P ticket) (bookRetireNumber id b) (λ e. record { given = h .given; found = h .found }) h
     has-kept b (onTicket other step) h =
         let found = exchangeOf other (b .pending) in
-        unless-kept (GivenHas P ticket) (ticketNumber other step b)
+        unless-kept (GivenHas P ticket) (bookStepNumber other step b)
         (λ e. record {
           given = h .given;
           found =

@@ -10,9 +10,8 @@ use Rattle.exchange.specs.declared.Exchange.{Exchange}
 use Rattle.request.specs.Request.{keyIdOf, fieldsOf, infoOf}
 use Rattle.exchange.specs.Exchange.{isFree, hasTicket, exchangeOf, asked}
 use Rattle.exchange.specs.Steps.{Step, refusal, next, answer, buffer}
-use Rattle.keys.specs.Keys.{Key, placeOfKey, retireRefusal, withUse, withRetirement, changed}
-use Rattle.gateway.specs.Registry.{Registry, freshRegistry, admitRefusal, admitAnswer, retireAnswer, report}
-use Rattle.gateway.specs.Gateway.{tableSize}
+use Rattle.keys.specs.Keys.{keyWith, retireRefusal, withUse, withRetirement, withKey}
+use Rattle.gateway.specs.Registry.{Registry, freshRegistry, admitRefusal, admitAnswer, retireAnswer, report, tableSize}
 use Rattle.gateway.specs.Calls.{Call, admit, retire, onTicket, reporting, ofAdmit, ofRetire, ofStep, ofReport, Done}
 
 -- cap, last ticket and keys, and the set of pending exchanges, which is kept in the order of their admission
@@ -29,24 +28,22 @@ freshBook list cap = record { registry = freshRegistry list cap; pending = [] }
 abbrev pub setIsFull : Book → Bool
 setIsFull b = leb tableSize (length (b .pending))
 
--- the keys with the one that has the id changed
-abbrev pub withKey : (Key → Key) → ℕ → Registry → List Key
-withKey change id registry = changed change (placeOfKey id (registry .keys)) (registry .keys)
-
 -- an accepted admit adds one to its key's count and to the last ticket, which is then its ticket, and puts the exchange in as
 -- asked
-abbrev pub admitted : List ℕ → Book → Book
-admitted request b =
+abbrev pub bookAdmitted : List ℕ → Book → Book
+bookAdmitted request b =
+    let ticket = b .registry .lastTicket + 1 in
     record {
-      registry = record { cap = b .registry .cap; lastTicket = b .registry .lastTicket + 1; keys = withKey withUse (keyIdOf request) (b .registry) };
-      pending = b .pending ++ asked (b .registry .lastTicket + 1) (fieldsOf request) ∷ [];
+      registry = record { cap = b .registry .cap; lastTicket = ticket; keys = withKey withUse (keyIdOf request) (b .registry .keys) };
+      pending = b .pending ++ asked ticket (fieldsOf request) ∷ [];
     }
 
 -- an accepted retire marks the key
-abbrev pub keyRetired : ℕ → Book → Book
-keyRetired id b =
+abbrev pub bookRetired : ℕ → Book → Book
+bookRetired id b =
+    let registry = b .registry in
     record {
-      registry = record { cap = b .registry .cap; lastTicket = b .registry .lastTicket; keys = withKey withRetirement id (b .registry) };
+      registry = record { cap = registry .cap; lastTicket = registry .lastTicket; keys = withKey withRetirement id (registry .keys) };
       pending = b .pending;
     }
 
@@ -65,33 +62,33 @@ bookStepped ticket step b =
     record { registry = b .registry; pending = replaced ticket (next step (exchangeOf ticket (b .pending))) (b .pending) }
 
 -- the refusals in their order
-abbrev pub admitNumber : List ℕ → List ℕ → Book → ℕ
-admitNumber request info b = admitRefusal (b .registry) (setIsFull b) request (length info)
+abbrev pub bookAdmitNumber : List ℕ → List ℕ → Book → ℕ
+bookAdmitNumber request info b = admitRefusal (b .registry) (setIsFull b) request (length info)
 
-abbrev pub retireNumber : ℕ → Book → ℕ
-retireNumber id b = retireRefusal (b .registry .keys) (placeOfKey id (b .registry .keys))
+abbrev pub bookRetireNumber : ℕ → Book → ℕ
+bookRetireNumber id b = retireRefusal (keyWith id (b .registry .keys))
 
-abbrev pub ticketNumber : ℕ → Step → Book → ℕ
-ticketNumber ticket step b = refusal step (exchangeOf ticket (b .pending))
+abbrev pub bookStepNumber : ℕ → Step → Book → ℕ
+bookStepNumber ticket step b = refusal step (exchangeOf ticket (b .pending))
 
 -- a refused call gets its number and changes nothing
 unfoldable pub bookDoes : Book → Call → Done Book
 bookDoes b (admit request info) =
     record {
-      answer = ofAdmit (admitAnswer (admitNumber request info b) (b .registry .lastTicket + 1) request);
-      buffer = written (admitNumber request info b) (infoOf request) info;
-      state = unlessRefused (admitNumber request info b) (admitted request b) b;
+      answer = ofAdmit (admitAnswer (bookAdmitNumber request info b) (b .registry .lastTicket + 1) request);
+      buffer = written (bookAdmitNumber request info b) (infoOf request) info;
+      state = unlessRefused (bookAdmitNumber request info b) (bookAdmitted request b) b;
     }
 bookDoes b (retire id) =
     record {
-      answer = ofRetire (retireAnswer (retireNumber id b));
+      answer = ofRetire (retireAnswer (bookRetireNumber id b));
       buffer = [];
-      state = unlessRefused (retireNumber id b) (keyRetired id b) b;
+      state = unlessRefused (bookRetireNumber id b) (bookRetired id b) b;
     }
 bookDoes b (onTicket ticket step) =
     record {
       answer = ofStep (answer step (exchangeOf ticket (b .pending)));
       buffer = buffer step (exchangeOf ticket (b .pending));
-      state = unlessRefused (ticketNumber ticket step b) (bookStepped ticket step b) b;
+      state = unlessRefused (bookStepNumber ticket step b) (bookStepped ticket step b) b;
     }
 bookDoes b reporting = record { answer = ofReport (report (b .registry) (length (b .pending))); buffer = []; state = b }

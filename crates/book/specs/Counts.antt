@@ -1,17 +1,18 @@
 -- Demand 2, "A key's count is the number of admissions it was given", over every list of calls; tickets; and that nothing wraps.
-use Prim.Native.Nat.{ℕ, zero, suc, _+_, _*_, _≤_, _<_}
+use Prim.Native.Nat.{ℕ, zero, suc, _+_, _*_, _≤_}
 use mathlib.Core.Bool.{Bool, false}
 use mathlib.Core.Path.{_≡_}
-use mathlib.Core.List.{List, [], _∷_, _++_}
-use lib.Dec.{eqb}
+use mathlib.Core.List.{List, [], _∷_, _++_, map}
+use lib.Dec.{eqb, ltb}
 use lib.ListN.{length}
 use Rattle.wire.specs.Tests.{_and_}
+use Rattle.wire.specs.Search.{anyPasses}
 use Rattle.keylist.specs.Layout.{mostConfigurations}
 use Rattle.request.specs.Request.{keyIdOf}
-use Rattle.keys.specs.Keys.{Key, keyAt}
+use Rattle.keys.specs.Keys.{Key}
 use Rattle.keys.specs.Stored.{oneMore}
 use Rattle.gateway.specs.Registry.{Registry, mostUses}
-use Rattle.gateway.specs.Gateway.{registryOf, nextTicket}
+use Rattle.gateway.specs.View.{registryOf}
 use Rattle.gateway.specs.Calls.{Call, admit, retire, onTicket, reporting}
 use Rattle.book.specs.History.{Event, filtered, isAccepted, ticketsOf, gatewayTrace, gatewayAfter}
 
@@ -43,10 +44,10 @@ countingFrom first (suc n) = first ∷ countingFrom (first + 1) n
 
 -- of the registry at the end of a history, and the history
 pub record Counts (registry : Registry) (events : List Event) : Type 0 where
-  pub admissions : (place : ℕ) → place < length (registry .keys)
-      → keyAt (registry .keys) place .count ≡ admissionsOfKey (keyAt (registry .keys) place .id) events
+  -- each key's count, in list order
+  pub admissions : map (λ (key : Key). key .count) (registry .keys) ≡ map (λ (key : Key). admissionsOfKey (key .id) events) (registry .keys)
   -- "The count of a key lies between 0 and the cap."
-  pub withinCap : (place : ℕ) → place < length (registry .keys) → keyAt (registry .keys) place .count ≤ registry .cap
+  pub withinCap : anyPasses (λ key. ltb (registry .cap) (key .count)) (registry .keys) ≡ false
   pub capBound : (1 ≤ registry .cap) × (registry .cap ≤ mostUses)
   -- "the last one equals the sum of all use counts, so is at most 16,000,000,000"
   pub lastTicket : registry .lastTicket ≡ sumOfCounts (registry .keys)
@@ -59,10 +60,9 @@ CountsHold =
     (list : List ℕ) (cap : ℕ) (calls : List Call) → Counts (registryOf (gatewayAfter list cap calls)) (gatewayTrace list cap calls)
 
 -- no ticket and no count is the largest of its width, so that the next one is one more
+pub record OneMore (registry : Registry) : Type 0 where
+  pub ticket : oneMore 64 (registry .lastTicket) ≡ registry .lastTicket + 1
+  pub counts : map (λ (key : Key). oneMore 32 (key .count)) (registry .keys) ≡ map (λ (key : Key). key .count + 1) (registry .keys)
+
 abbrev pub NothingWraps : Type 0
-NothingWraps =
-    (list : List ℕ) (cap : ℕ) (calls : List Call)
-    → (nextTicket (gatewayAfter list cap calls) ≡ registryOf (gatewayAfter list cap calls) .lastTicket + 1)
-    × ((place : ℕ) → place < length (registryOf (gatewayAfter list cap calls) .keys)
-    → oneMore 32 (keyAt (registryOf (gatewayAfter list cap calls) .keys) place .count)
-    ≡ keyAt (registryOf (gatewayAfter list cap calls) .keys) place .count + 1)
+NothingWraps = (list : List ℕ) (cap : ℕ) (calls : List Call) → OneMore (registryOf (gatewayAfter list cap calls))

@@ -5,7 +5,7 @@ use mathlib.Core.Path.{_≡_}
 use mathlib.Core.List.{List, [], _∷_, _++_, map, Perm}
 use Rattle.wire.specs.Tests.{_and_}
 use Rattle.wire.specs.Search.{among}
-use Rattle.gateway.specs.Gateway.{registryOf, pendingIn}
+use Rattle.gateway.specs.View.{registryOf, pendingIn}
 use Rattle.gateway.specs.Calls.{Call, admit, retire, onTicket, reporting, Answer}
 use Rattle.book.specs.Book.{Book, freshBook, bookDoes}
 use Rattle.book.specs.History.{Event, trace, final, filtered, gatewayTrace, gatewayAfter, isAccepted, ticketsOf}

@@ -12,12 +12,12 @@ use Rattle.exchange.specs.Steps.{openResult, respond, abandon}
 use Rattle.keys.specs.Keys.{Key}
 use Rattle.gateway.specs.declared.AdmitAnswer.{AdmitAnswer}
 use Rattle.gateway.specs.Registry.{statusOf, isKeyProblem}
-use Rattle.gateway.specs.Gateway.{registryOf, pendingIn}
+use Rattle.gateway.specs.View.{registryOf, pendingIn}
 use Rattle.gateway.specs.Calls.{Call, admit, retire, onTicket, reporting, number, ofAdmit}
 use Rattle.book.specs.History.{Event, trace, gatewayTrace, gatewayAfter}
 use Rattle.book.specs.Counts.{ticketsGiven}
 use Rattle.book.specs.Book.{freshBook, bookDoes}
-use Rattle.book.specs.Demand3.{movedList, callsOf, bookAfter}
+use Rattle.book.specs.Demand3.{movedList, callsOf}
 
 -- a request that names key 7, and so many bytes of enc and ciphertext behind its head
 abbrev pub request : ℕ → ℕ → ℕ → ℕ → List ℕ

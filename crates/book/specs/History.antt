@@ -1,14 +1,15 @@
 -- Lists of calls, each of which gets the state that the one before returned: what each gave, and the state at the end.
 use Prim.Native.Nat.{ℕ}
 use mathlib.Core.Bool.{Bool}
+use mathlib.Core.Path.{_≡_}
 use mathlib.Core.List.{List, [], _∷_, map}
 use lib.Dec.{eqb}
 use Rattle.wire.specs.Tests.{pick}
 use Rattle.gateway.specs.declared.Gateway.{Gateway}
 use Rattle.gateway.specs.declared.AdmitAnswer.{AdmitAnswer}
 use Rattle.gateway.specs.declared.admission.Admission.{Admission}
-use Rattle.gateway.specs.Gateway.{freshGateway}
-use Rattle.gateway.specs.Calls.{Call, Answer, Done, number, ofAdmit, ofRetire, ofStep, ofReport, gatewayDoes}
+use Rattle.gateway.specs.Gateway.{freshGateway, gatewayDoes}
+use Rattle.gateway.specs.Calls.{Call, Answer, Done, number, ofAdmit, ofRetire, ofStep, ofReport}
 
 -- a call, its answer, and its buffer's bytes after it
 pub record Event : Type 0 where
@@ -39,6 +40,16 @@ gatewayTrace list cap calls = trace gatewayDoes (freshGateway list cap) calls
 
 abbrev pub gatewayAfter : List ℕ → ℕ → List Call → Gateway
 gatewayAfter list cap calls = final gatewayDoes (freshGateway list cap) calls
+
+-- and from what they reached: what one more call gives, its answer, and that it is accepted
+abbrev pub eventAfter : List ℕ → ℕ → List Call → Call → Event
+eventAfter list cap calls call = event call (gatewayDoes (gatewayAfter list cap calls) call)
+
+abbrev pub answerAfter : List ℕ → ℕ → List Call → Call → Answer
+answerAfter list cap calls call = eventAfter list cap calls call .answer
+
+abbrev pub Accepts : List ℕ → ℕ → List Call → Call → Type 0
+Accepts list cap calls call = number (answerAfter list cap calls call) ≡ 0
 
 -- answered without a refusal number
 abbrev pub isAccepted : Event → Bool

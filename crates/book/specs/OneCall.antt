@@ -4,23 +4,24 @@ use Prim.Native.Nat.{ℕ, _≤_, _<_}
 use mathlib.Core.Path.{_≡_}
 use mathlib.Core.Logic.{_↔_}
 use mathlib.Core.Bool.{true, false}
-use mathlib.Core.List.{List, []}
+use mathlib.Core.List.{List, [], _∷_, _++_}
 use lib.ListN.{length, getD}
 use Rattle.wire.specs.Tests.{pick}
-use Rattle.wire.specs.Refusals.{unlessRefused}
-use Rattle.wire.specs.Texts.{infoLength}
+use Rattle.wire.specs.Refusals.{unlessRefused, IsRefused}
+use Rattle.wire.specs.Texts.{infoLength, longestRequest}
 use Rattle.algorithms.specs.Sizes.{knownKem, knownKdf, knownAead, shortestRequest}
 use Rattle.exchange.specs.declared.Exchange.{Exchange}
-use Rattle.request.specs.Request.{longestRequest, keyIdOf, kemOf, kdfOf, aeadOf, fieldsOf}
-use Rattle.exchange.specs.Exchange.{free, isFree, asked, exchangeOf}
-use Rattle.exchange.specs.Steps.{refusal, fails}
-use Rattle.keys.specs.Keys.{keyAt}
-use Rattle.keys.specs.Stored.{noPair}
+use Rattle.request.specs.Request.{keyIdOf, kemOf, kdfOf, aeadOf, fieldsOf}
+use Rattle.exchange.specs.Exchange.{free, isFree, asked}
+use Rattle.exchange.specs.Steps.{fails}
+use Rattle.keys.specs.Keys.{Key}
 use Rattle.gateway.specs.declared.Gateway.{Gateway}
-use Rattle.gateway.specs.Registry.{statusOf}
-use Rattle.gateway.specs.Gateway.{registryOf, nextTicket}
-use Rattle.gateway.specs.Calls.{Call, admit, retire, onTicket, reporting, number, unprotectedStatus, gatewayDoes, admitNumber}
-use Rattle.book.specs.History.{gatewayAfter}
+use Rattle.gateway.specs.declared.SetupAnswer.{SetupAnswer}
+use Rattle.gateway.specs.Registry.{setup, setupAnswer, statusOf}
+use Rattle.gateway.specs.Gateway.{freshGateway, nextTicket, gatewayDoes}
+use Rattle.gateway.specs.View.{registryOf, pendingIn}
+use Rattle.gateway.specs.Calls.{Call, admit, retire, onTicket, reporting, number, unprotectedStatus}
+use Rattle.book.specs.History.{gatewayAfter, Accepts}
 
 -- the bytes of the buffer that a call lends
 abbrev pub lent : Call → List ℕ
@@ -29,11 +30,13 @@ lent (retire id) = []
 lent (onTicket ticket step) = step .salt
 lent reporting = []
 
--- "A refusal changes no gateway and no byte of a lent buffer", for every gateway and every call
-abbrev pub RefusalChangesNothing : Type 0
-RefusalChangesNothing =
-    (g : Gateway) (call : Call) → (number (gatewayDoes g call .answer) ≡ 0 → ⊥)
-    → (gatewayDoes g call .state ≡ g) × (gatewayDoes g call .buffer ≡ lent call)
+-- "A refusal changes no gateway and no byte of a lent buffer", for every gateway and every call. Setup is given no gateway: "A refused setup
+-- hands back a gateway without keys, cap 1, last ticket 0"
+pub record RefusalChangesNothing : Type 0 where
+  pub ofCall : (g : Gateway) (call : Call) → (number (gatewayDoes g call .answer) ≡ 0 → ⊥)
+      → (gatewayDoes g call .state ≡ g) × (gatewayDoes g call .buffer ≡ lent call)
+  pub ofSetup : (list : List ℕ) (cap : ℕ) → IsRefused SetupAnswer.Refused (setupAnswer (setup list cap))
+      → (registryOf (freshGateway list cap) ≡ record { cap = 1; lastTicket = 0; keys = [] }) × (pendingIn (freshGateway list cap .table) ≡ [])
 
 -- Demand 2: "An exchange is admitted exactly when its request is well formed, names a live key with its KEM and a known pair it
 -- offers, and there is a use, a free place and buffer for the info."
@@ -43,43 +46,43 @@ pub record WellFormed (request : List ℕ) : Type 0 where
   pub notTooLong : length request ≤ longestRequest
 
 -- an element of a list
-abbrev pub IsElement : {A : Type 0} → A → List A → A → Type 0
-IsElement blank xs x = (place : ℕ) × (place < length xs) × (getD xs place blank ≡ x)
+abbrev pub IsElement : {A : Type 0} → A → List A → Type 0
+IsElement {A} x xs = (before : List A) × (behind : List A) × (xs ≡ before ++ x ∷ behind)
 
 pub record Admissible (g : Gateway) (request info : List ℕ) : Type 0 where
   pub wellFormed : WellFormed request
   -- the key that it names
-  pub place : ℕ
-  pub isKey : place < length (registryOf g .keys)
-  pub named : keyAt (registryOf g .keys) place .id ≡ keyIdOf request
-  pub live : keyAt (registryOf g .keys) place .retired ≡ false
-  pub kem : keyAt (registryOf g .keys) place .kem ≡ kemOf request
+  pub key : Key
+  pub isKey : IsElement key (registryOf g .keys)
+  pub named : key .id ≡ keyIdOf request
+  pub live : key .retired ≡ false
+  pub kem : key .kem ≡ kemOf request
   pub kdfKnown : knownKdf (kdfOf request) ≡ true
   pub aeadKnown : knownAead (aeadOf request) ≡ true
-  pub pairOffered : IsElement noPair (keyAt (registryOf g .keys) place .pairs) (record { kdf = kdfOf request; aead = aeadOf request })
-  pub uses : keyAt (registryOf g .keys) place .count < registryOf g .cap
-  pub freePlaceThere : (p : ℕ) × (p < length (g .table)) × (isFree (getD (g .table) p free) ≡ true)
+  pub pairOffered : IsElement (record { kdf = kdfOf request; aead = aeadOf request }) (key .pairs)
+  pub uses : key .count < registryOf g .cap
+  pub freePlaceThere : (place : Exchange) × IsElement place (g .table) × (isFree place ≡ true)
   pub room : infoLength ≤ length info
 
 -- for every gateway that calls reached
 abbrev pub AdmissionExactly : Type 0
 AdmissionExactly =
     (list : List ℕ) (cap : ℕ) (calls : List Call) (request info : List ℕ)
-    → (number (gatewayDoes (gatewayAfter list cap calls) (admit request info) .answer) ≡ 0)
-    ↔ Admissible (gatewayAfter list cap calls) request info
+    → Accepts list cap calls (admit request info) ↔ Admissible (gatewayAfter list cap calls) request info
 
--- "Errors found before or at opening go out unprotected, later ones only sealed"; "no other call's refusal sends anything": the
--- status that goes out unprotected, 0 where nothing does. It is that of a refused admit, and 422 of a failed opening.
-abbrev pub unprotectedFor : Gateway → Call → ℕ
-unprotectedFor g (admit request info) = unlessRefused (admitNumber request info g) 0 (statusOf (admitNumber request info g))
-unprotectedFor g (retire id) = 0
-unprotectedFor g (onTicket ticket step) =
-    unlessRefused (refusal step (exchangeOf ticket (g .table))) (pick (fails (step .kind)) 422 0) 0
-unprotectedFor g reporting = 0
+-- "Errors found before or at opening go out unprotected, later ones only sealed"; "no other call's refusal sends anything": by the refusal
+-- number of a call, the status that goes out unprotected, 0 where nothing does. It is that of a refused admit, and 422 of a failed opening.
+abbrev pub unprotectedFor : ℕ → Call → ℕ
+unprotectedFor refusal (admit request info) = unlessRefused refusal 0 (statusOf refusal)
+unprotectedFor refusal (retire id) = 0
+unprotectedFor refusal (onTicket ticket step) = unlessRefused refusal (pick (fails (step .kind)) 422 0) 0
+unprotectedFor refusal reporting = 0
 
 -- for every gateway and every call
 abbrev pub UnprotectedExactly : Type 0
-UnprotectedExactly = (g : Gateway) (call : Call) → unprotectedStatus (gatewayDoes g call .answer) ≡ unprotectedFor g call
+UnprotectedExactly =
+    (g : Gateway) (call : Call)
+    → unprotectedStatus (gatewayDoes g call .answer) ≡ unprotectedFor (number (gatewayDoes g call .answer)) call
 
 -- 01's open point: the new exchange stands at a place that was free, and every other place keeps what it had
 pub record NewPlace (before after : List Exchange) (new : Exchange) : Type 0 where

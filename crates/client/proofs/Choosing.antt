@@ -9,19 +9,20 @@ use borrow.Author.Tests.{ltb-true, ltb-false}
 use lib.Dec.{eqb, ltb}
 use lib.ListN.{length}
 use Rattle.wire.specs.Search.{anyPasses, among}
-use Rattle.wire.specs.Refusals.{refused}
+use Rattle.wire.specs.Refusals.{refused, IsRefused}
 use Rattle.wire.specs.declared.refusal.Refusal.{Refusal}
 use Rattle.wire.proofs.Matches.{any-first}
 use Rattle.wire.proofs.Booleans.{either, true-or-false, and-left, and-right, and-false}
 use Rattle.algorithms.specs.Sizes.{knownKem, knownPair}
 use Rattle.keylist.specs.declared.Pair.{Pair}
-use Rattle.keylist.specs.Layout.{Configuration, Outcome, good, bad, parse, nextStart, configurationAt, pairsAt, keyIdAt, kemAt, keyStart, keyEnd, pairBytesAt, pairsStart}
+use Rattle.keylist.specs.Layout.{Configuration, good, bad, parse, nextStart, configurationAt, pairsAt, keyIdAt, kemAt, keyStart, keyEnd, pairBytesAt, pairsStart, Result}
 use Rattle.keylist.proofs.LayoutLaws.{Holds}
 use Rattle.keylist.proofs.Walk.{GoodFrom, GoodNext, walk-start, walk-next, walk-end, key-length-at}
 use Rattle.client.specs.declared.choose.Choice.{Choice}
 use Rattle.client.specs.declared.choose.Chosen.{Chosen}
 use Rattle.client.specs.declared.choose.PairFound.{PairFound}
-use Rattle.client.specs.Choose.{listed, usablePair, usable, firstUsable, pairFound, choice, chooseFirst, chooseFrom, CanUse, IsRefused, ChosenIsUsable}
+use Rattle.client.specs.Choose.{listed, usablePair, usable, firstUsable, choice, chooseFirst, chooseFrom, CanUse, ChosenIsUsable}
+use Rattle.client.specs.Helpers.{pairFound}
 use Rattle.client.proofs.Pairs.{pair-there, none-there, listed-place}
 
 -- the pairs of the configuration at an offset
@@ -119,7 +120,7 @@ module _ (kems numbers : List ℕ) where
       let z : _≡_ {A = ℕ} 0 1 = cc in omega arith))
 
   -- what is chosen in a list
-  can-use : (bytes : List ℕ) (x : Choice) (p : Outcome (List Configuration)) → parse bytes ≡ p
+  can-use : (bytes : List ℕ) (x : Choice) (p : Result (List Configuration)) → parse bytes ≡ p
       → chooseFrom kems numbers p ≡ Chosen.Usable x → CanUse kems numbers x
   unfolding walk-start
   can-use bytes x (bad r) e f = absurd (usable-or-refused (sym f))
@@ -128,7 +129,7 @@ module _ (kems numbers : List ℕ) where
       (λ even. can-use-rest bytes x cs 0 (walk-start bytes cs e) refl (rw even at f))
       (λ odd. absurd (usable-or-refused (sym (rw odd at f))))
 
-refused-unless : (answer : Chosen) → ((x : Choice) → answer ≡ Chosen.Usable x → ⊥) → IsRefused answer
+refused-unless : (answer : Chosen) → ((x : Choice) → answer ≡ Chosen.Usable x → ⊥) → IsRefused Chosen.Refused answer
 refused-unless (Chosen.Usable x) never = absurd (never x refl)
 refused-unless (Chosen.Refused r) never = (r, refl)
 

@@ -14,9 +14,10 @@ use Rattle.wire.specs.Bytes.{wordAt}
 use Rattle.wire.specs.Search.{firstPlace, anyPasses}
 use Rattle.wire.proofs.Booleans.{either, true-or-false, and-left, and-right}
 use Rattle.keylist.specs.declared.Pair.{Pair}
-use Rattle.keylist.specs.Layout.{pairsAt}
+use Rattle.keylist.specs.Layout.{pairsAt, isPair}
 use Rattle.client.specs.declared.choose.PairFound.{PairFound}
-use Rattle.client.specs.Choose.{pairsOf, samePair, listed, usablePair, pairAnswer, pairFound}
+use Rattle.client.specs.Choose.{pairsOf, listed, usablePair}
+use Rattle.client.specs.Helpers.{pairAnswer, pairFound}
 
 -- the pair at an offset of the client's numbers
 abbrev pub pairAt : List ℕ → ℕ → Pair
@@ -32,7 +33,7 @@ no-pairs (a ∷ b ∷ numbers) h = absurd (omega arith)
 module _ (numbers : List ℕ) (at : ℕ) (p : Pair) where
   -- the search among the client's pairs, one pair on
   pub listed-step : at + 1 < length numbers
-      → listed (drop at numbers) p ≡ pick (samePair (pairAt numbers at) p) true (listed (drop (at + 2) numbers) p)
+      → listed (drop at numbers) p ≡ pick (isPair (p .kdf) (p .aead) (pairAt numbers at)) true (listed (drop (at + 2) numbers) p)
   unfolding anyPasses pairsOf
   listed-step h =
       let one : at + 1 ≡ suc at = omega arith in

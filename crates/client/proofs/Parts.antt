@@ -12,7 +12,8 @@ use Rattle.wire.specs.declared.refusal.Refusal.{Refusal}
 use Rattle.wire.proofs.Booleans.{either}
 use Rattle.algorithms.specs.Sizes.{knownAead, responseNonceLength, nonceLength, tagLength}
 use Rattle.client.specs.declared.split.Parts.{Parts}
-use Rattle.client.specs.Split.{splitRefusal, splitAnswer, partsOf, noncePart, ciphertextPart, IsRefused, PartsEmptyOnRefusal}
+use Rattle.client.specs.Split.{splitRefusal, splitAnswer, partsOf, noncePart, ciphertextPart, PartsEmptyOnRefusal}
+use Rattle.wire.specs.Refusals.{IsRefused}
 
 meets : (refusal nonceEnd at : ℕ) → partsOf refusal nonceEnd ≡ Parts.NonceEnd at → (refusal ≡ 0) × (nonceEnd ≡ at)
 meets zero nonceEnd at e = (refl, cc)
@@ -37,12 +38,12 @@ module _ (response : List ℕ) where
   abbrev Within : Parts → Type 0
   Within answer = (at : ℕ) → answer ≡ Parts.NonceEnd at → (nonceLength ≤ at) × (at + tagLength ≤ length response)
 
-  nonce-empty : (answer : Parts) → Within answer → (noncePart response answer ≡ []) ↔ IsRefused answer
+  nonce-empty : (answer : Parts) → Within answer → (noncePart response answer ≡ []) ↔ IsRefused Parts.Refused answer
   nonce-empty (Parts.NonceEnd at) within =
       (λ e. absurd (omega (arith, within at refl, simp length-take at (ap length e))), λ r. absurd (meet-or-refused (r .1)))
   nonce-empty (Parts.Refused r) within = (λ e. (r, refl), λ x. refl)
 
-  ciphertext-empty : (answer : Parts) → Within answer → (ciphertextPart response answer ≡ []) ↔ IsRefused answer
+  ciphertext-empty : (answer : Parts) → Within answer → (ciphertextPart response answer ≡ []) ↔ IsRefused Parts.Refused answer
   ciphertext-empty (Parts.NonceEnd at) within =
       (λ e. absurd (omega (arith, within at refl, simp length-drop at (ap length e))), λ r. absurd (meet-or-refused (r .1)))
   ciphertext-empty (Parts.Refused r) within = (λ e. (r, refl), λ x. refl)

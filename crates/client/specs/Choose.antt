@@ -1,20 +1,18 @@
 -- 01, "Choose": the first configuration in list order, and of its pairs the first, that the client can use; 15, 13, 16.
 use mathlib.Core.Path.{_≡_}
-use mathlib.Core.Bool.{Bool, true, false}
+use mathlib.Core.Bool.{Bool, true}
 use mathlib.Core.List.{List, [], _∷_}
 use Prim.Native.Nat.{ℕ, _+_, _*_, _%_, _<_}
 use lib.Dec.{eqb}
 use lib.ListN.{length, getD}
 use Rattle.wire.specs.Tests.{pick, _and_}
 use Rattle.wire.specs.Search.{firstPlace, anyPasses, among}
-use Rattle.wire.specs.Refusals.{refused}
-use Rattle.wire.specs.declared.refusal.Refusal.{Refusal}
+use Rattle.wire.specs.Refusals.{refused, IsRefused}
 use Rattle.algorithms.specs.Sizes.{knownKem, knownPair}
 use Rattle.keylist.specs.declared.Pair.{Pair}
-use Rattle.keylist.specs.Layout.{Configuration, Outcome, good, bad, keyStart, parse}
+use Rattle.keylist.specs.Layout.{Configuration, good, bad, keyStart, parse, isPair, Result}
 use Rattle.client.specs.declared.choose.Choice.{Choice}
 use Rattle.client.specs.declared.choose.Chosen.{Chosen}
-use Rattle.client.specs.declared.choose.PairFound.{PairFound}
 
 -- pairs from numbers, KDF and AEAD by turns
 unfoldable pub pairsOf : List ℕ → List Pair
@@ -22,13 +20,9 @@ pairsOf [] = []
 pairsOf (kdf ∷ []) = []
 pairsOf (kdf ∷ aead ∷ numbers) = record { kdf = kdf; aead = aead } ∷ pairsOf numbers
 
--- both halves are the same
-abbrev pub samePair : Pair → Pair → Bool
-samePair p q = eqb (p .kdf) (q .kdf) and eqb (p .aead) (q .aead)
-
 -- a pair that is in the client's list
 abbrev pub listed : List ℕ → Pair → Bool
-listed numbers p = anyPasses (λ q. samePair q p) (pairsOf numbers)
+listed numbers p = anyPasses (isPair (p .kdf) (p .aead)) (pairsOf numbers)
 
 -- a pair that is in the client's list and known
 abbrev pub usablePair : List ℕ → Pair → Bool
@@ -41,14 +35,6 @@ usable kems numbers c = among kems (c .kem) and anyPasses (usablePair numbers) (
 -- the first usable one of pairs of which one is
 abbrev pub firstUsable : List ℕ → List Pair → Pair
 firstUsable numbers pairs = getD pairs (firstPlace (usablePair numbers) pairs) (record { kdf = 0; aead = 0 })
-
--- the same, where there is one
-abbrev pub pairAnswer : Bool → Pair → PairFound
-pairAnswer true p = PairFound.Pair (p .kdf) (p .aead)
-pairAnswer false p = PairFound.Nothing
-
-abbrev pub pairFound : List ℕ → List Pair → PairFound
-pairFound numbers pairs = pairAnswer (anyPasses (usablePair numbers) pairs) (firstUsable numbers pairs)
 
 -- the answer: key id, KEM, pair, and where the public key starts and ends in the list
 abbrev pub choice : Configuration → Pair → Choice
@@ -69,7 +55,7 @@ chooseFirst kems numbers (c ∷ cs) =
     pick (usable kems numbers c) (Chosen.Usable (choice c (firstUsable numbers (c .pairs)))) (chooseFirst kems numbers cs)
 
 -- choose, of what the list was read into; 13 where the pair list is of odd length
-abbrev pub chooseFrom : List ℕ → List ℕ → Outcome (List Configuration) → Chosen
+abbrev pub chooseFrom : List ℕ → List ℕ → Result (List Configuration) → Chosen
 chooseFrom kems numbers (bad r) = Chosen.Refused r
 chooseFrom kems numbers (good cs) =
     pick (eqb (length numbers % 2) 0) (chooseFirst kems numbers cs) (Chosen.Refused (refused 13))
@@ -81,12 +67,9 @@ pub record CanUse (kems numbers : List ℕ) (x : Choice) : Type 0 where
   pub pair : (i : ℕ) × (i * 2 + 1 < length numbers) × (getD numbers (i * 2) 0 ≡ x .kdf) × (getD numbers (i * 2 + 1) 0 ≡ x .aead)
   pub pairKnown : knownPair (x .kdf) (x .aead) ≡ true
 
-abbrev pub IsRefused : Chosen → Type 0
-IsRefused answer = (r : Refusal) × (answer ≡ Chosen.Refused r)
-
 -- whatever is chosen, the client can use; without a KEM or without a pair nothing is chosen
 pub record ChosenIsUsable : Type 0 where
   pub canUse : (kems numbers bytes : List ℕ) (x : Choice) → chooseFrom kems numbers (parse bytes) ≡ Chosen.Usable x
       → CanUse kems numbers x
-  pub noKems : (numbers bytes : List ℕ) → IsRefused (chooseFrom [] numbers (parse bytes))
-  pub noPairs : (kems bytes : List ℕ) → IsRefused (chooseFrom kems [] (parse bytes))
+  pub noKems : (numbers bytes : List ℕ) → IsRefused Chosen.Refused (chooseFrom [] numbers (parse bytes))
+  pub noPairs : (kems bytes : List ℕ) → IsRefused Chosen.Refused (chooseFrom kems [] (parse bytes))

@@ -3,3 +3,4 @@ pub mod Choose
 pub mod Head
 pub mod Split
 pub mod Edges
+pub mod Helpers

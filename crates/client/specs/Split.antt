@@ -6,14 +6,10 @@ use mathlib.Core.Bool.{not}
 use mathlib.Core.List.{List, [], _++_}
 use lib.Dec.{ltb}
 use lib.ListN.{length, take, drop}
-use Rattle.wire.specs.Refusals.{_when_otherwise_, refused}
-use Rattle.wire.specs.declared.refusal.Refusal.{Refusal}
+use Rattle.wire.specs.Refusals.{_when_otherwise_, refused, IsRefused}
+use Rattle.wire.specs.Texts.{longestPlain}
 use Rattle.algorithms.specs.Sizes.{knownAead, responseNonceLength, tagLength}
 use Rattle.client.specs.declared.split.Parts.{Parts}
-
--- the longest plain response
-abbrev pub longestPlain : ℕ
-longestPlain = 65536
 
 -- 01, "Order", split; 0: no refusal
 unfoldable pub splitRefusal : ℕ → ℕ → ℕ
@@ -40,15 +36,12 @@ abbrev pub ciphertextPart : List ℕ → Parts → List ℕ
 ciphertextPart response (Parts.NonceEnd at) = drop at response
 ciphertextPart response (Parts.Refused r) = []
 
-abbrev pub IsRefused : Parts → Type 0
-IsRefused answer = (r : Refusal) × (answer ≡ Parts.Refused r)
-
 -- each part is empty exactly on refusal, and the two parts of a response that is not refused are the whole of it
 pub record PartsEmptyOnRefusal : Type 0 where
   pub nonce : (aead : ℕ) (response : List ℕ)
-      → (noncePart response (splitAnswer aead (length response)) ≡ []) ↔ IsRefused (splitAnswer aead (length response))
+      → (noncePart response (splitAnswer aead (length response)) ≡ []) ↔ IsRefused Parts.Refused (splitAnswer aead (length response))
   pub ciphertext : (aead : ℕ) (response : List ℕ)
-      → (ciphertextPart response (splitAnswer aead (length response)) ≡ []) ↔ IsRefused (splitAnswer aead (length response))
+      → (ciphertextPart response (splitAnswer aead (length response)) ≡ []) ↔ IsRefused Parts.Refused (splitAnswer aead (length response))
   pub whole : (aead at : ℕ) (response : List ℕ) → splitAnswer aead (length response) ≡ Parts.NonceEnd at
       → noncePart response (splitAnswer aead (length response)) ++ ciphertextPart response (splitAnswer aead (length response))
       ≡ response

@@ -6,14 +6,14 @@ use Prim.Native.Nat.{ℕ, _+_, _≤_}
 use native.Mathlib.Omega.{arith}
 use lib.Dec.{ltb}
 use borrow.Author.Tests.{eqb-true, leb-true, ltb-false, not-false}
-use Rattle.wire.specs.Refusals.{_when_otherwise_}
 use Rattle.wire.proofs.Numbers.{not-refused}
 use Rattle.keylist.proofs.LayoutLaws.{both}
 use Rattle.algorithms.specs.Sizes.{knownKem, knownAead, encLength, responseNonceLength}
 use Rattle.algorithms.proofs.Stated.{size-bounds}
 use Rattle.exchange.specs.declared.Exchange.{Exchange}
 use Rattle.exchange.specs.declared.Move.{Move}
-use Rattle.exchange.specs.Exchange.{isFree, responseHolds, longestPlain}
+use Rattle.exchange.specs.Exchange.{isFree, responseHolds}
+use Rattle.wire.specs.Texts.{longestPlain}
 use Rattle.exchange.specs.Steps.{isAllowed, lengthsHold, refusalBy}
 
 -- the lengths that hold, as numbers, and their bounds

@@ -16,6 +16,11 @@ pub next-ticket : (phase : ℕ) (e : Exchange) → isFree (leftIn phase e) ≡ f
 unfolding leftIn
 next-ticket phase e h = either (eqb phase closedPhase) (λ c. absurd (true-or-false refl (rw c at h))) (λ c. rw c)
 
+-- and where nothing is left of one that was pending, a free place is
+pub left-free : (phase : ℕ) (e : Exchange) → isFree e ≡ false → isFree (leftIn phase e) ≡ true → leftIn phase e ≡ free
+unfolding leftIn
+left-free phase e there h = either (eqb phase closedPhase) (λ c. rw c) (λ c. absurd (true-or-false (rw c at h) there))
+
 -- a call that closes leaves a free place
 closing-leaves : (kind : Move) → closes kind ≡ true → leaves kind ≡ closedPhase
 closing-leaves (Move.Open n) c = absurd (true-or-false c refl)

@@ -6,6 +6,7 @@ use lib.Dec.{eqb, leb}
 use lib.ListN.{getD}
 use Rattle.wire.specs.Tests.{pick, _and_}
 use Rattle.wire.specs.Search.{firstPlace}
+use Rattle.wire.specs.Texts.{longestPlain}
 use Rattle.algorithms.specs.Sizes.{knownKem, knownAead, encLength, responseNonceLength, tagLength}
 use Rattle.exchange.specs.declared.Exchange.{Exchange}
 use Rattle.request.specs.declared.Request.{Request}
@@ -82,15 +83,11 @@ hasOpenedLength n e = eqb (n + tagLength) (e .«ciphertext_length»)
 
 -- the length is Nenc of the exchange's KEM
 abbrev pub hasEnc : ℕ → Exchange → Bool
-hasEnc length e = knownKem (e .kem) and eqb length (encLength (e .kem))
+hasEnc size e = knownKem (e .kem) and eqb size (encLength (e .kem))
 
 -- the length is that of the response nonce, max(Nn, Nk) of the exchange's AEAD
 abbrev pub hasNonce : ℕ → Exchange → Bool
-hasNonce length e = knownAead (e .aead) and eqb length (responseNonceLength (e .aead))
-
--- the most bytes of a plain response
-abbrev pub longestPlain : ℕ
-longestPlain = 65536
+hasNonce size e = knownAead (e .aead) and eqb size (responseNonceLength (e .aead))
 
 -- the lengths of enc, nonce and plain response that respond asks for
 abbrev pub responseHolds : ℕ → ℕ → ℕ → Exchange → Bool

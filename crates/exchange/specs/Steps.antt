@@ -5,7 +5,7 @@ use mathlib.Core.List.{List, [], _++_}
 use lib.Dec.{ltb}
 use lib.ListN.{length}
 use Rattle.wire.specs.Tests.{pick}
-use Rattle.wire.specs.Refusals.{_when_otherwise_, refused, unlessRefused, written}
+use Rattle.wire.specs.Refusals.{_when_otherwise_, refused, written}
 use Rattle.algorithms.specs.Sizes.{tagLength}
 use Rattle.exchange.specs.declared.Exchange.{Exchange}
 use Rattle.exchange.specs.declared.Move.{Move}
@@ -84,10 +84,6 @@ refusal s e = refusalBy (s .kind) (length (s .enc)) (length (s .nonce)) (length 
 -- what an accepted call makes of the exchange
 abbrev pub next : Step → Exchange → Exchange
 next s e = leftIn (leaves (s .kind)) e
-
--- what a call leaves of the exchange
-abbrev pub after : Step → Exchange → Exchange
-after s e = unlessRefused (refusal s e) (next s e) e
 
 -- what an accepted call answers: opened, or on failure unprotected 422; sealed, outer status 200, and the encapsulated length: nonce +
 -- plain length + 16

@@ -7,27 +7,28 @@ use Prim.Native.Nat.{ℕ}
 use native.Mathlib.Omega.{arith}
 use Rattle.wire.specs.Refusals.{refused}
 use Rattle.wire.specs.declared.refusal.Refusal.{Refusal}
-use Rattle.keylist.specs.Layout.{Configuration, Outcome, good, bad}
+use Rattle.keylist.specs.Layout.{Configuration, good, bad, Result}
 use Rattle.keylist.specs.Answers.{checked}
 use Rattle.keylist.specs.declared.Checked.{Checked}
-use Rattle.keys.specs.Stored.{storedKeys, keysFrom}
+use Rattle.keys.specs.Stored.{storedKeys}
+use Rattle.keys.specs.Helpers.{keysFrom}
 use Rattle.gateway.specs.declared.SetupAnswer.{SetupAnswer}
 use Rattle.gateway.specs.Registry.{capHolds, withCap, setupAnswer}
 use Rattle.gateway.specs.Gateway.{emptyGateway, gatewayFrom}
 
-pub cap-refused : (o : Outcome (List Configuration)) (cap n : ℕ) → checked o ≡ Checked.Good n → capHolds cap ≡ false
+pub cap-refused : (o : Result (List Configuration)) (cap n : ℕ) → checked o ≡ Checked.Good n → capHolds cap ≡ false
     → (emptyGateway 1 (storedKeys []) ≡ gatewayFrom cap (withCap cap o))
     × (SetupAnswer.Refused (refused 17) ≡ setupAnswer (withCap cap o))
 cap-refused (good cs) cap n e h = rw h (refl, refl)
 cap-refused (bad r) cap n e h = absurd (let z : _≡_ {A = ℕ} 0 1 = cc in omega arith)
 
-pub ready : (o : Outcome (List Configuration)) (cap n : ℕ) → checked o ≡ Checked.Good n → capHolds cap ≡ true
+pub ready : (o : Result (List Configuration)) (cap n : ℕ) → checked o ≡ Checked.Good n → capHolds cap ≡ true
     → (emptyGateway cap (keysFrom o) ≡ gatewayFrom cap (withCap cap o)) × (SetupAnswer.Ready n ≡ setupAnswer (withCap cap o))
 unfolding keysFrom
 ready (good cs) cap n e h = rw h (refl, cc)
 ready (bad r) cap n e h = absurd (let z : _≡_ {A = ℕ} 0 1 = cc in omega arith)
 
-pub list-refused : (o : Outcome (List Configuration)) (cap : ℕ) (r : Refusal) → checked o ≡ Checked.Refused r
+pub list-refused : (o : Result (List Configuration)) (cap : ℕ) (r : Refusal) → checked o ≡ Checked.Refused r
     → (emptyGateway 1 (storedKeys []) ≡ gatewayFrom cap (withCap cap o)) × (SetupAnswer.Refused r ≡ setupAnswer (withCap cap o))
 list-refused (good cs) cap r e = absurd (let z : _≡_ {A = ℕ} 0 1 = cc in omega arith)
 list-refused (bad s) cap r e = (refl, cc)

@@ -14,7 +14,8 @@ use Rattle.wire.proofs.Booleans.{either, and-false, true-or-false}
 use Rattle.wire.proofs.Matches.{first-at, first-none}
 use Rattle.exchange.specs.declared.Exchange.{Exchange}
 use Rattle.exchange.specs.Exchange.{free, isFree, hasTicket, exchangeOf}
-use Rattle.gateway.specs.Gateway.{tableSize, pendingIn}
+use Rattle.gateway.specs.View.{pendingIn}
+use Rattle.gateway.specs.Registry.{tableSize}
 
 -- another ticket
 pub other-ticket : (ticket : ℕ) (e : Exchange) → (e .ticket .0 ≡ ticket → ⊥) → hasTicket ticket e ≡ false

@@ -6,12 +6,13 @@ use Prim.Native.Nat.{ℕ, zero, suc, _≤_, _<_}
 use native.Mathlib.Omega.{arith}
 use lib.Dec.{leb, ltb}
 use lib.ListN.{length, getD, set, take, replicate, length-append, length-take}
-use lib.Seq.{set-out}
+use lib.Seq.{set-out, set-getD}
 use borrow.Author.Tests.{leb-true, leb-false, ltb-false}
 use Rattle.wire.proofs.Booleans.{either}
 use Rattle.wire.specs.Search.{firstPlace}
 use Rattle.wire.specs.Refusals.{_when_otherwise_, refused, unlessRefused}
-use Rattle.wire.specs.Bytes.{withFront, overwritten}
+use Rattle.wire.specs.Bytes.{withFront}
+use Rattle.wire.specs.Helpers.{overwritten}
 use Rattle.wire.specs.Texts.{headLength, infoLength, infoBytes, requestLabel}
 use Rattle.wire.specs.declared.refusal.Refusal.{Refusal}
 use Rattle.wire.proofs.Matches.{any-by-place}
@@ -21,15 +22,19 @@ use Rattle.exchange.specs.declared.Exchange.{Exchange}
 use Rattle.exchange.specs.declared.Ticket.{Ticket}
 use Rattle.request.specs.declared.Request.{Request}
 use Rattle.request.specs.declared.Parsed.{Parsed}
-use Rattle.request.specs.Request.{requestRefusal, fieldsOf, noFields, parsed, infoOf}
+use Rattle.request.specs.Request.{fieldsOf, infoOf}
+use Rattle.request.specs.Helpers.{requestRefusal, noFields, parsed}
 use Rattle.exchange.specs.declared.StepAnswer.{StepAnswer}
 use Rattle.exchange.specs.Exchange.{free, isFree, asked, hasTicket, exchangeOf}
-use Rattle.exchange.specs.Steps.{Step, after, answer}
+use Rattle.exchange.specs.Steps.{Step, refusal, next, answer}
+use Rattle.exchange.specs.Helpers.{after}
 use Rattle.request.proofs.Requests.{accepted-request, info-of}
 use Rattle.keys.specs.declared.KeyState.{KeyState}
-use Rattle.keys.specs.Keys.{Key, placeOfKey, keyRefusal, retireRefusal}
-use Rattle.keys.specs.Stored.{blankKey, keysOf, usedState, retiredState, changedState}
+use Rattle.keys.specs.Keys.{Key, keysOf}
+use Rattle.keys.specs.Helpers.{placeOfKey, keyRefusal, retireRefusalAt}
+use Rattle.keys.specs.Stored.{blankKey, usedState, retiredState, changedState}
 use Rattle.keys.proofs.Arrays.{getD-any}
+use Rattle.keys.proofs.Named.{retire-order}
 use Rattle.keys.proofs.Stored.{unread, place-used}
 use Rattle.gateway.specs.declared.Gateway.{Gateway}
 use Rattle.gateway.specs.declared.change.Change.{Change}
@@ -37,11 +42,12 @@ use Rattle.gateway.specs.declared.admission.Admission.{Admission}
 use Rattle.gateway.specs.declared.admission.AdmitRefusal.{AdmitRefusal}
 use Rattle.gateway.specs.declared.AdmitAnswer.{AdmitAnswer}
 use Rattle.gateway.specs.declared.RetireAnswer.{RetireAnswer}
-use Rattle.gateway.specs.Registry.{_orElse_, roomRefusal, admitRefusal, refusalOfAdmit, admission, admitAnswer, retireAnswer}
-use Rattle.gateway.specs.Gateway.{tableSize, isFull, freePlace, nextTicket, admitted, retiredGateway, withExchange}
-use Rattle.gateway.specs.Change.{changed, exchangeAt, Fits}
-use Rattle.gateway.proofs.Deciding.{none-of-both}
-use Rattle.gateway.specs.Calls.{admit, retire, onTicket, ofAdmit, ofRetire, ofStep, gatewayDoes, admitNumber, retireNumber}
+use Rattle.gateway.specs.Registry.{refusalOfAdmit, admission, admitAnswer, retireAnswer, tableSize}
+use Rattle.gateway.specs.Helpers.{_orElse_, roomRefusal, exchangeAt}
+use Rattle.gateway.specs.Gateway.{isFull, freePlace, nextTicket, gatewayDoes, gatewayAdmitNumber, gatewayRetireNumber, gatewayAdmitted, gatewayRetired}
+use Rattle.gateway.specs.Change.{changed, Fits}
+use Rattle.gateway.proofs.Deciding.{none-of-both, admit-order}
+use Rattle.gateway.specs.Calls.{admit, retire, onTicket, ofAdmit, ofRetire, ofStep}
 
 -- the answers of a refused retire and of a refused admit
 retire-refused : (n : ℕ) → (n ≡ 0 → ⊥) → RetireAnswer.Refused (refused n) ≡ retireAnswer n
@@ -51,6 +57,17 @@ retire-refused (suc n) h = refl
 admit-refused : (n ticket : ℕ) (request : List ℕ) → (n ≡ 0 → ⊥) → AdmitAnswer.Refused (refusalOfAdmit n) ≡ admitAnswer n ticket request
 admit-refused zero ticket request h = absurd (h refl)
 admit-refused (suc n) ticket request h = refl
+
+-- a gateway with an exchange at a place of the table
+abbrev pub withExchange : ℕ → Exchange → Gateway → Gateway
+withExchange place e g =
+    record { «last_ticket» = g .«last_ticket»; cap = g .cap; keys = g .keys; table = set (g .table) place e }
+
+-- by a refusal number, where what stood there is put back: as if nothing had been put
+put-back : (n place : ℕ) (new old : Exchange) (g : Gateway) → old ≡ getD (g .table) place free
+    → withExchange place (unlessRefused n new old) g ≡ unlessRefused n (withExchange place new g) g
+put-back zero place new old g e = refl
+put-back (suc n) place new old g e = rw (e, set-getD (g .table) place free)
 
 -- an exchange put at a place, over a change that changes nothing
 put-at : (g : Gateway) → length (g .table) ≡ tableSize → (change : Change) → Fits change × (changed change g ≡ g) → (place : ℕ) (e : Exchange)
@@ -74,8 +91,11 @@ pub stepped-by : (g : Gateway) → length (g .table) ≡ tableSize → (ticket :
     × (ofStep told ≡ gatewayDoes g (onTicket ticket step) .answer))
 unfolding gatewayDoes
 stepped-by g size ticket step nothing same found is t =
-    let put = put-at g size nothing same (firstPlace (hasTicket ticket) (g .table)) (after step (exchangeOf ticket (g .table))) in
-    (rw (is, found .1, found .0) (put .0), (rw (is, found .1, found .0) (put .1), rw (t, found .1)))
+    let place = firstPlace (hasTicket ticket) (g .table) in
+    let e = exchangeOf ticket (g .table) in
+    let put = put-at g size nothing same place (after step e) in
+    let back = put-back (refusal step e) place (next step e) e g refl in
+    (rw (is, found .1, found .0) (put .0), (rw (is, found .1, found .0) (put .1 ∙ back), rw (t, found .1)))
 
 -- a change with another key
 abbrev withKey : ℕ → KeyState → Change → Change
@@ -90,10 +110,10 @@ withKey place key change =
 
 -- retire, by the place and the number that it finds
 module _ (g : Gateway) (id place number : ℕ) (p : place ≡ placeOfKey id (keysOf (g .keys)))
-    (n : number ≡ retireRefusal (keysOf (g .keys)) place) where
+    (n : number ≡ retireRefusalAt (keysOf (g .keys)) place) where
   -- the number is retire's
-  is-number : number ≡ retireNumber id g
-  is-number = n ∙ ap (retireRefusal (keysOf (g .keys))) p
+  is-number : number ≡ gatewayRetireNumber id g
+  is-number = n ∙ ap (retireRefusalAt (keysOf (g .keys))) p ∙ retire-order id (keysOf (g .keys))
 
   -- over a change that changes nothing
   module _ (change : Change) (same : changed change g ≡ g) where
@@ -102,7 +122,7 @@ module _ (g : Gateway) (id place number : ℕ) (p : place ≡ placeOfKey id (key
         → (changed change g ≡ gatewayDoes g (retire id) .state) × (ofRetire (RetireAnswer.Refused r) ≡ gatewayDoes g (retire id) .answer)
     unfolding gatewayDoes
     not-retired r e h =
-        rw (← is-number, e) (same ∙ unless-refused number (retiredGateway id g) g h, ap ofRetire (retire-refused number h))
+        rw (← is-number, e) (same ∙ unless-refused number (gatewayRetired id g) g h, ap ofRetire (retire-refused number h))
 
     -- an accepted one, with the key that was read at the place, retired
     pub is-retired : number ≡ 0 → length (g .keys .list) ≡ 16 → place < 16
@@ -154,10 +174,9 @@ module _ {g : Gateway} {request info : List ℕ} (d : Decided g request info) wh
   full-by-place = rw (d .isPlace, ← d .size) (any-by-place free isFree (g .table))
 
   -- the number is admit's
-  admit-number : d .number ≡ admitNumber request info g
-  unfolding admitRefusal
+  admit-number : d .number ≡ gatewayAdmitNumber request info g
   admit-number =
-      d .isNumber ∙ rw (d .isByKey, d .isKeyPlace, d .isRead, full-by-place)
+      d .isNumber ∙ rw (admit-order, d .isByKey, d .isKeyPlace, d .isRead, full-by-place)
       (fields-only-accepted (requestRefusal request) (g .cap) (keysOf (g .keys)) (fieldsOf request) noFields _)
 
   -- a refused admit, over a change that changes nothing
@@ -168,7 +187,7 @@ module _ {g : Gateway} {request info : List ℕ} (d : Decided g request info) wh
   unfolding gatewayDoes
   not-admitted change same r e h =
       rw (← admit-number, e) (
-        same ∙ unless-refused (d .number) (admitted request g) g h,
+        same ∙ unless-refused (d .number) (gatewayAdmitted request g) g h,
         (ap ofAdmit (admit-refused (d .number) (nextTicket g) request h), unless-refused (d .number) _ info h),
       )
 

@@ -1,13 +1,10 @@
 -- What a call changes of a gateway, as the code hands it on: the last ticket, one key and one exchange, each at its place.
-use Prim.Native.Nat.{ℕ, _<_}
-use lib.Dec.{leb}
+use Prim.Native.Nat.{_<_}
 use lib.ListN.{set}
-use Rattle.wire.specs.Tests.{pick}
-use Rattle.exchange.specs.declared.Exchange.{Exchange}
 use Rattle.keylist.specs.Layout.{mostConfigurations}
 use Rattle.gateway.specs.declared.Gateway.{Gateway}
 use Rattle.gateway.specs.declared.change.Change.{Change}
-use Rattle.gateway.specs.Gateway.{tableSize}
+use Rattle.gateway.specs.Registry.{tableSize}
 
 -- both places are there
 abbrev pub Fits : Change → Type 0
@@ -22,14 +19,3 @@ changed change g =
       keys = record { list = set (g .keys .list) (change .«key_place») (change .key); count = g .keys .count };
       table = set (g .table) (change .place) (change .exchange);
     }
-
--- a change with another exchange at a place of the table; as it is where there is no such place
-unfoldable pub exchangeAt : ℕ → Exchange → Change → Change
-exchangeAt place e change =
-    pick (leb tableSize place) change (record {
-      «last_ticket» = change .«last_ticket»;
-      «key_place» = change .«key_place»;
-      key = change .key;
-      place = place;
-      exchange = e;
-    })

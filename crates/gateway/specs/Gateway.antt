@@ -1,45 +1,36 @@
--- The gateway's state after each call. What it answers is in `Registry` and in exchange's `Steps`.
+-- The gateway as it is stored, and what it does with each call: the contracts of the entries cite `gatewayDoes` and `freshGateway`. The
+-- theorems of `book` say of every list of calls that it gives what 01's book gives.
 use Prim.Native.Nat.{ℕ}
 use mathlib.Core.Bool.{Bool, not}
-use mathlib.Core.List.{List, [], _∷_}
-use lib.ListN.{set, replicate}
-use Rattle.wire.specs.Tests.{pick}
+use mathlib.Core.List.{List, []}
+use lib.ListN.{length, set, replicate}
 use Rattle.wire.specs.Search.{firstPlace, anyPasses}
-use Rattle.keylist.specs.Layout.{Configuration, Outcome, good, bad}
+use Rattle.wire.specs.Refusals.{unlessRefused, written}
+use Rattle.keylist.specs.Layout.{Configuration, Result, good, bad}
 use Rattle.exchange.specs.declared.Exchange.{Exchange}
-use Rattle.request.specs.Request.{keyIdOf, fieldsOf}
+use Rattle.request.specs.Request.{keyIdOf, fieldsOf, infoOf}
 use Rattle.exchange.specs.Exchange.{free, isFree, hasTicket, exchangeOf, asked}
-use Rattle.exchange.specs.Steps.{Step, after}
+use Rattle.exchange.specs.Steps.{Step, refusal, next, answer, buffer}
 use Rattle.keys.specs.declared.Keys.{Keys}
-use Rattle.keys.specs.Keys.{placeOfKey}
-use Rattle.keys.specs.Stored.{keysOf, storedKeys, oneMore, usedState, retiredState, changedState}
+use Rattle.keys.specs.Keys.{keyWith, retireRefusal, keysOf}
+use Rattle.keys.specs.Stored.{storedKeys, oneMore, usedState, retiredState, changedState}
+use Rattle.keys.specs.Helpers.{placeOfKey}
 use Rattle.gateway.specs.declared.Gateway.{Gateway}
-use Rattle.gateway.specs.Registry.{Registry, setup}
-
--- the places of the table
-abbrev pub tableSize : ℕ
-tableSize = 128
+use Rattle.gateway.specs.Registry.{tableSize, setup, admitRefusal, admitAnswer, retireAnswer, report}
+use Rattle.gateway.specs.View.{registryOf, pendingIn}
+use Rattle.gateway.specs.Calls.{Call, admit, retire, onTicket, reporting, ofAdmit, ofRetire, ofStep, ofReport, Done}
 
 -- a gateway of these keys, with all places free
 abbrev pub emptyGateway : ℕ → Keys → Gateway
 emptyGateway cap keys = record { «last_ticket» = record { 0 = 0 }; cap = cap; keys = keys; table = replicate tableSize free }
 
 -- after setup; a refused one hands back a gateway without keys, cap 1, last ticket 0
-abbrev pub gatewayFrom : ℕ → Outcome (List Configuration) → Gateway
+abbrev pub gatewayFrom : ℕ → Result (List Configuration) → Gateway
 gatewayFrom cap (good cs) = emptyGateway cap (storedKeys cs)
 gatewayFrom cap (bad r) = emptyGateway 1 (storedKeys [])
 
 abbrev pub freshGateway : List ℕ → ℕ → Gateway
 freshGateway list cap = gatewayFrom cap (setup list cap)
-
--- cap, last ticket and keys of a gateway
-abbrev pub registryOf : Gateway → Registry
-registryOf g = record { cap = g .cap; lastTicket = g .«last_ticket» .0; keys = keysOf (g .keys) }
-
--- the pending exchanges of a table
-unfoldable pub pendingIn : List Exchange → List Exchange
-pendingIn [] = []
-pendingIn (e ∷ es) = pick (isFree e) (pendingIn es) (e ∷ pendingIn es)
 
 -- no place is free
 abbrev pub isFull : List Exchange → Bool
@@ -55,8 +46,8 @@ abbrev pub nextTicket : Gateway → ℕ
 nextTicket g = oneMore 64 (g .«last_ticket» .0)
 
 -- after an accepted admit: its key has one use more, its ticket is the last one, and the exchange is in the table, asked
-abbrev pub admitted : List ℕ → Gateway → Gateway
-admitted request g =
+abbrev pub gatewayAdmitted : List ℕ → Gateway → Gateway
+gatewayAdmitted request g =
     record {
       «last_ticket» = record { 0 = nextTicket g };
       cap = g .cap;
@@ -65,8 +56,8 @@ admitted request g =
     }
 
 -- after an accepted retire
-abbrev pub retiredGateway : ℕ → Gateway → Gateway
-retiredGateway id g =
+abbrev pub gatewayRetired : ℕ → Gateway → Gateway
+gatewayRetired id g =
     record {
       «last_ticket» = g .«last_ticket»;
       cap = g .cap;
@@ -74,12 +65,44 @@ retiredGateway id g =
       table = g .table;
     }
 
--- with an exchange at a place of the table
-abbrev pub withExchange : ℕ → Exchange → Gateway → Gateway
-withExchange place e g =
-    record { «last_ticket» = g .«last_ticket»; cap = g .cap; keys = g .keys; table = set (g .table) place e }
+-- after an accepted call on a ticket: in the place of its exchange stands what the call makes of it
+abbrev pub gatewayStepped : ℕ → Step → Gateway → Gateway
+gatewayStepped ticket step g =
+    record {
+      «last_ticket» = g .«last_ticket»;
+      cap = g .cap;
+      keys = g .keys;
+      table = set (g .table) (firstPlace (hasTicket ticket) (g .table)) (next step (exchangeOf ticket (g .table)));
+    }
 
--- after a call on a ticket: in the place of its exchange stands what the call leaves of it
-abbrev pub stepped : ℕ → Step → Gateway → Gateway
-stepped ticket step g =
-    withExchange (firstPlace (hasTicket ticket) (g .table)) (after step (exchangeOf ticket (g .table))) g
+-- the refusal numbers of the calls
+abbrev pub gatewayAdmitNumber : List ℕ → List ℕ → Gateway → ℕ
+gatewayAdmitNumber request info g = admitRefusal (registryOf g) (isFull (g .table)) request (length info)
+
+abbrev pub gatewayRetireNumber : ℕ → Gateway → ℕ
+gatewayRetireNumber id g = retireRefusal (keyWith id (keysOf (g .keys)))
+
+abbrev pub gatewayStepNumber : ℕ → Step → Gateway → ℕ
+gatewayStepNumber ticket step g = refusal step (exchangeOf ticket (g .table))
+
+unfoldable pub gatewayDoes : Gateway → Call → Done Gateway
+gatewayDoes g (admit request info) =
+    record {
+      answer = ofAdmit (admitAnswer (gatewayAdmitNumber request info g) (nextTicket g) request);
+      buffer = written (gatewayAdmitNumber request info g) (infoOf request) info;
+      state = unlessRefused (gatewayAdmitNumber request info g) (gatewayAdmitted request g) g;
+    }
+gatewayDoes g (retire id) =
+    record {
+      answer = ofRetire (retireAnswer (gatewayRetireNumber id g));
+      buffer = [];
+      state = unlessRefused (gatewayRetireNumber id g) (gatewayRetired id g) g;
+    }
+gatewayDoes g (onTicket ticket step) =
+    record {
+      answer = ofStep (answer step (exchangeOf ticket (g .table)));
+      buffer = buffer step (exchangeOf ticket (g .table));
+      state = unlessRefused (gatewayStepNumber ticket step g) (gatewayStepped ticket step g) g;
+    }
+gatewayDoes g reporting =
+    record { answer = ofReport (report (registryOf g) (length (pendingIn (g .table)))); buffer = []; state = g }

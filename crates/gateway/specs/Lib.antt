@@ -1,5 +1,8 @@
--- 01's gateway: its head (cap, last ticket, keys), the rules of admission and of retirement, the report, the table, and the calls.
+-- 01's gateway: cap, last ticket and keys with the rules of admission and of retirement, and the report; the calls; what a gateway holds, how
+-- it is stored, and what each call does and changes.
 pub mod Registry
+pub mod Calls
+pub mod View
 pub mod Gateway
 pub mod Change
-pub mod Calls
+pub mod Helpers

@@ -2,8 +2,8 @@
 ghost use mathlib.Core.Path.{_≡_};
 ghost use lib.Dec.{leb};
 ghost use Rattle.keys.specs.Stored.{oneMore};
-ghost use Rattle.gateway.specs.Registry.{_orElse_, roomRefusal, statusOf, isKeyProblem, refusalOfAdmit, admission};
-ghost use Rattle.gateway.specs.Gateway.{tableSize};
+ghost use Rattle.gateway.specs.Registry.{statusOf, isKeyProblem, refusalOfAdmit, admission, tableSize};
+ghost use Rattle.gateway.specs.Helpers.{_orElse_, roomRefusal};
 use crate::table::TABLE_SIZE;
 use exchange::Ticket;
 use keylist::KeyId;

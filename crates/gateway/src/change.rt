@@ -2,8 +2,10 @@
 // memory writes only what changes.
 ghost use mathlib.Core.Path.{_≡_};
 ghost use lib.ListN.{set};
-ghost use Rattle.exchange.specs.Steps.{step, after, answer, buffer};
-ghost use Rattle.gateway.specs.Change.{changed, exchangeAt, Fits};
+ghost use Rattle.exchange.specs.Steps.{step, answer, buffer};
+ghost use Rattle.exchange.specs.Helpers.{after};
+ghost use Rattle.gateway.specs.Change.{changed, Fits};
+ghost use Rattle.gateway.specs.Helpers.{exchangeAt};
 use crate::Gateway;
 use crate::StepChange;
 use crate::table::Found;

@@ -6,9 +6,9 @@ ghost use Rattle.exchange.specs.Steps.{step, bare};
 ghost use Rattle.keys.specs.Stored.{storedKeys};
 ghost use Rattle.gateway.specs.declared.SetupAnswer.{SetupAnswer};
 ghost use Rattle.gateway.specs.Registry.{setup, setupAnswer};
-ghost use Rattle.gateway.specs.Gateway.{emptyGateway, freshGateway};
+ghost use Rattle.gateway.specs.Gateway.{emptyGateway, freshGateway, gatewayDoes};
 ghost use Rattle.gateway.specs.Change.{changed, Fits};
-ghost use Rattle.gateway.specs.Calls.{admit, retire, onTicket, reporting, ofAdmit, ofRetire, ofStep, ofReport, gatewayDoes};
+ghost use Rattle.gateway.specs.Calls.{admit, retire, onTicket, reporting, ofAdmit, ofRetire, ofStep, ofReport};
 use crate::admission::Admission;
 use crate::admission::AdmitRefusal;
 use crate::admission::next_ticket;
@@ -221,9 +221,10 @@ impl Gateway {
         }
     }
 
-    // Report: last ticket, number pending, and each key's count and retirement.
+    // Report: last ticket, number pending, and each key's count and retirement. The gateway is as it was.
     pub fn report(self) -> Report
-        ensures { λ r. ⌜ ofReport r ≡ gatewayDoes self reporting .answer ⌝ }
+        ensures gateway { λ r. ⌜ self ≡ gatewayDoes self reporting .state ⌝ }
+        ensures answer { λ r. ⌜ ofReport r ≡ gatewayDoes self reporting .answer ⌝ }
     {
         let keys = self.keys;
         let table = self.table;

@@ -5,7 +5,9 @@ ghost use Prim.Native.Nat.{_≤_};
 ghost use lib.ListN.{length};
 ghost use Rattle.wire.specs.Search.{firstPlace};
 ghost use Rattle.exchange.specs.Exchange.{free, hasTicket, exchangeOf};
-ghost use Rattle.gateway.specs.Gateway.{tableSize, freePlace, pendingIn};
+ghost use Rattle.gateway.specs.Gateway.{freePlace};
+ghost use Rattle.gateway.specs.View.{pendingIn};
+ghost use Rattle.gateway.specs.Registry.{tableSize};
 use exchange::Exchange;
 use exchange::Ticket;
 

@@ -6,7 +6,7 @@ ghost use lib.Dec.{eqb};
 ghost use Rattle.exchange.specs.Steps.{openResult, respond, abandon};
 ghost use Rattle.gateway.specs.Registry.{setup, setupAnswer};
 ghost use Rattle.gateway.specs.Gateway.{freshGateway};
-ghost use Rattle.gateway.specs.Calls.{admit, retire, onTicket, reporting, gatewayDoes};
+ghost use Rattle.gateway.specs.Calls.{admit, retire, onTicket, reporting};
 ghost use Rattle.results.specs.Calls.{Does, outcomeOf, setupResult, admitResult, stepResult, reportResult};
 use crate::change::apply;
 use gateway::Gateway;
@@ -96,10 +96,10 @@ pub extern "C" fn sealwax_retire(gateway: &mut Gateway, key_id: u8) -> Outcome
     done.result
 }
 
-// Report: last ticket, number pending, and each key's count and retirement. Nothing changes.
+// Report: last ticket, number pending, and each key's count and retirement. The gateway is as it was.
 #[no_mangle]
 pub extern "C" fn sealwax_report(gateway: &Gateway) -> ReportResult
-    ensures { λ r. ⌜ r ≡ reportResult (gatewayDoes (now (gateway .entry)) reporting .answer) ⌝ }
+    ensures { λ r. ⌜ Does reportResult reporting (now (gateway .entry)) (now (gateway .entry)) r [] ⌝ }
 {
     gateway_calls::report(*gateway)
 }

@@ -5,21 +5,24 @@ use mathlib.Core.Path.{_≡_, refl, sym, ap, _∙_}
 use mathlib.Core.Bool.{true}
 use mathlib.Core.List.{List, [], _∷_}
 use mathlib.Core.Logic.{_↔_}
+use mathlib.Core.Option.{some, Option·none-ne-some, Option·some-injective}
 use Prim.Native.Nat.{ℕ, _+_, _-_, _≤_, _<_}
 use native.Mathlib.Omega.{arith}
 use borrow.Author.Tests.{lt-ltb, eq-eqb, ne-eqb, eqb-true, eqb-false, ltb-true, ltb-false}
 use lib.Dec.{eqb, ltb}
 use lib.ListN.{length, length-take, length-drop}
 use Rattle.wire.specs.Bytes.{part}
+use Rattle.wire.specs.Search.{firstThat}
 use Rattle.wire.specs.declared.refusal.Refusal.{Refusal}
 use Rattle.wire.proofs.Booleans.{either}
 use Rattle.algorithms.specs.Sizes.{publicKeyLength}
 use Rattle.algorithms.proofs.Stated.{size-bounds}
 use Rattle.keylist.specs.declared.KeyPlace.{KeyPlace}
 use Rattle.keylist.specs.declared.Place.{Place}
-use Rattle.keylist.specs.Layout.{Configuration, Outcome, good, bad, parse, configurationAt, layoutHolds, keyIdAt, kemAt, keyStart, keyEnd, nextStart}
-use Rattle.keylist.specs.Answers.{keyPlaceIn, firstWithId, keyPart, placeAt, placeOf}
-use Rattle.keylist.specs.Stated.{EmptyOnRefusal}
+use Rattle.keylist.specs.Layout.{Configuration, good, bad, parse, configurationAt, layoutHolds, keyIdAt, kemAt, keyStart, keyEnd, nextStart, Result}
+use Rattle.keylist.specs.Answers.{keyPlaceIn, firstWithId, keyPart}
+use Rattle.keylist.specs.Helpers.{placeOf, placeAt}
+use Rattle.keylist.specs.Stated.{EmptyOnRefusal, PublicKeyExactly}
 use Rattle.keylist.proofs.LayoutLaws.{Holds, holds}
 use Rattle.keylist.proofs.Walk.{GoodFrom, GoodNext, walk-start, walk-next, walk-end, key-length-at}
 
@@ -71,7 +74,7 @@ inside-rest bytes id (c ∷ cs) at w e =
     (λ h. absurd (let none : [] ≡ c ∷ cs = sym (walk-end bytes at w (ltb-false at (length bytes) h)) ∙ e in
     let z : _≡_ {A = ℕ} 0 1 = cc in omega arith))
 
-inside-list : (bytes : List ℕ) (id : ℕ) (p : Outcome (List Configuration)) → parse bytes ≡ p → Inside bytes (keyPlaceIn id p)
+inside-list : (bytes : List ℕ) (id : ℕ) (p : Result (List Configuration)) → parse bytes ≡ p → Inside bytes (keyPlaceIn id p)
 unfolding Inside walk-start
 inside-list bytes id (good cs) e = inside-rest bytes id cs 0 (walk-start bytes cs e) refl
 inside-list bytes id (bad r) e = tt
@@ -95,3 +98,28 @@ empty-place bytes (KeyPlace.Refused r) h = (λ e. (r, refl), λ e. refl)
 
 pub empty-on-refusal : EmptyOnRefusal
 empty-on-refusal bytes id = empty-place bytes (keyPlaceIn id (parse bytes)) (inside-list bytes id (parse bytes) refl)
+
+-- from an offset on: the part that is found is the public key of the first configuration with the key id, and has its Npk bytes
+key-rest : (bytes : List ℕ) (id : ℕ) (rest : List Configuration) (at : ℕ) (w : GoodFrom bytes at) → w .rest ≡ rest → (c : Configuration)
+    → firstThat (λ d. eqb (d .keyId) id) (w .rest) ≡ some c
+    → (keyPart bytes (firstWithId id (w .rest)) ≡ c .publicKey) × (length (c .publicKey) ≡ publicKeyLength (c .kem))
+unfolding firstThat configurationAt
+key-rest bytes id [] at w e c f = absurd (Option·none-ne-some c (rw e at f))
+key-rest bytes id (d ∷ rest) at w e c f =
+    either (ltb at (length bytes))
+    (λ h.
+    let n = walk-next bytes at w (ltb-true at (length bytes) h) in
+    let here : d ∷ rest ≡ configurationAt bytes at ∷ n .next .rest = sym e ∙ n .first in
+    either (eqb (keyIdAt bytes at) id)
+    (λ i.
+    let is : configurationAt bytes at ≡ c = Option·some-injective (configurationAt bytes at) c (rw (n .first, i) at f) in
+    let size : keyEnd bytes at - keyStart at ≡ publicKeyLength (kemAt bytes at) = omega arith in
+    rw (← is, found-here bytes at id n (eqb-true (keyIdAt bytes at) id i), size) (refl, key-length-at bytes at (n .holding)))
+    (λ i. rw (found-later bytes at id n (eqb-false (keyIdAt bytes at) id i))
+    (key-rest bytes id rest (nextStart bytes at) (n .next) (cc) c (rw (n .first, i) at f))))
+    (λ h. absurd (let none : [] ≡ d ∷ rest = sym (walk-end bytes at w (ltb-false at (length bytes) h)) ∙ e in
+    let z : _≡_ {A = ℕ} 0 1 = cc in omega arith))
+
+pub public-key-exactly : PublicKeyExactly
+unfolding walk-start
+public-key-exactly bytes id cs c e f = rw e (key-rest bytes id cs 0 (walk-start bytes cs e) refl c f)

@@ -15,7 +15,7 @@ use Rattle.wire.specs.Refusals.{badList}
 use Rattle.wire.specs.declared.refusal.Refusal.{Refusal}
 use Rattle.wire.proofs.Booleans.{either}
 use Rattle.keylist.specs.declared.Checked.{Checked}
-use Rattle.keylist.specs.Layout.{Configuration, Outcome, good, bad, parse, parseFrom, followedBy, configurationAt, layoutHolds, keyIdAt, nextStart, mostConfigurations}
+use Rattle.keylist.specs.Layout.{Configuration, good, bad, parse, parseFrom, followedBy, configurationAt, layoutHolds, keyIdAt, nextStart, mostConfigurations, Result}
 use Rattle.keylist.specs.Answers.{checked}
 
 -- a refusal is no result
@@ -67,16 +67,16 @@ parse-none [] h = refl
 parse-none (b ∷ bytes) h = absurd (omega arith)
 
 -- the answer of check, with so many configurations before
-unfoldable pub counted : ℕ → Outcome (List Configuration) → Checked
+unfoldable pub counted : ℕ → Result (List Configuration) → Checked
 counted n (good cs) = Checked.Good (n + length cs)
 counted n (bad r) = Checked.Refused r
 
-pub counted-none : (p : Outcome (List Configuration)) → checked p ≡ counted 0 p
+pub counted-none : (p : Result (List Configuration)) → checked p ≡ counted 0 p
 unfolding counted
 counted-none (good cs) = ap Checked.Good (omega arith)
 counted-none (bad r) = refl
 
-pub counted-one : (n : ℕ) (c : Configuration) (p : Outcome (List Configuration)) → counted n (followedBy c p) ≡ counted (n + 1) p
+pub counted-one : (n : ℕ) (c : Configuration) (p : Result (List Configuration)) → counted n (followedBy c p) ≡ counted (n + 1) p
 unfolding counted
 counted-one n c (good cs) = ap Checked.Good (omega arith)
 counted-one n c (bad r) = refl

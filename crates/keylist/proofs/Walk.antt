@@ -14,7 +14,7 @@ use Rattle.wire.specs.declared.refusal.Refusal.{Refusal}
 use Rattle.wire.proofs.Booleans.{either, and-left}
 use Rattle.algorithms.specs.Sizes.{publicKeyLength}
 use Rattle.keylist.specs.declared.Checked.{Checked}
-use Rattle.keylist.specs.Layout.{Configuration, Outcome, good, bad, parse, parseFrom, followedBy, configurationAt, layoutHolds, keyIdAt, kemAt, nextStart, mostConfigurations}
+use Rattle.keylist.specs.Layout.{Configuration, good, bad, parse, parseFrom, followedBy, configurationAt, layoutHolds, keyIdAt, kemAt, nextStart, mostConfigurations, Result}
 use Rattle.keylist.specs.Answers.{checked}
 use Rattle.keylist.proofs.LayoutLaws.{Holds, holds}
 use Rattle.keylist.proofs.Parsing.{goodAt, parse-end, parse-bad, parse-too-many, parse-more, parse-some, parse-none, no-refusal}
@@ -33,7 +33,7 @@ pub record GoodNext (bytes : List ℕ) (at : ℕ) (rest : List Configuration) : 
   pub holding : Holds bytes at
 
 -- a good outcome behind a first configuration is that configuration and a good outcome
-split : (c : Configuration) (p : Outcome (List Configuration)) (rest : List Configuration) → followedBy c p ≡ good rest
+split : (c : Configuration) (p : Result (List Configuration)) (rest : List Configuration) → followedBy c p ≡ good rest
     → (cs : List Configuration) × (p ≡ good cs) × (rest ≡ c ∷ cs)
 split c (good cs) rest e = (cs, refl, cc)
 split c (bad r) rest e = no-refusal e
@@ -74,12 +74,12 @@ module _ (bytes : List ℕ) where
       record { more = mostConfigurations; taken = []; rest = cs; parsed = sym (parse-some bytes (not-empty cs e)) ∙ e }
 
 -- a list that check calls good is good
-pub checked-good : (p : Outcome (List Configuration)) (n : ℕ) → checked p ≡ Checked.Good n
+pub checked-good : (p : Result (List Configuration)) (n : ℕ) → checked p ≡ Checked.Good n
     → (cs : List Configuration) × (p ≡ good cs)
 checked-good (good cs) n e = (cs, refl)
 checked-good (bad r) n e = absurd (let z : _≡_ {A = ℕ} 0 1 = cc in omega arith)
 
-pub checked-bad : (p : Outcome (List Configuration)) (r : Refusal) → checked p ≡ Checked.Refused r → p ≡ bad r
+pub checked-bad : (p : Result (List Configuration)) (r : Refusal) → checked p ≡ Checked.Refused r → p ≡ bad r
 checked-bad (good cs) r e = absurd (let z : _≡_ {A = ℕ} 0 1 = cc in omega arith)
 checked-bad (bad s) r e = cc
 

@@ -1,19 +1,17 @@
 -- What check and the key reader answer (01, "Key reader: 15, 4"), as the list's configurations say.
 use Prim.Native.Nat.{ℕ, _+_, _-_}
-use mathlib.Core.Path.{_≡_}
 use mathlib.Core.List.{List, [], _∷_}
-use lib.Dec.{eqb, ltb}
+use lib.Dec.{eqb}
 use lib.ListN.{length}
 use Rattle.wire.specs.Tests.{pick}
 use Rattle.wire.specs.Bytes.{part}
 use Rattle.wire.specs.Refusals.{refused}
-use Rattle.keylist.specs.Layout.{Configuration, Outcome, good, bad, keyStart, keyEnd, keyIdAt, kemAt, nextStart, parse}
-use Rattle.keylist.specs.declared.Place.{Place}
+use Rattle.keylist.specs.Layout.{Configuration, good, bad, keyStart, Result}
 use Rattle.keylist.specs.declared.Checked.{Checked}
 use Rattle.keylist.specs.declared.KeyPlace.{KeyPlace}
 
 -- check: the number of configurations, or 15 with the place
-abbrev pub checked : Outcome (List Configuration) → Checked
+abbrev pub checked : Result (List Configuration) → Checked
 checked (good cs) = Checked.Good (length cs)
 checked (bad r) = Checked.Refused r
 
@@ -27,7 +25,7 @@ firstWithId id [] = KeyPlace.Refused (refused 4)
 firstWithId id (c ∷ cs) = pick (eqb (c .keyId) id) (keyPlace c) (firstWithId id cs)
 
 -- the key reader's checking entry: 15 with the place, or 4, or where the public key lies
-abbrev pub keyPlaceIn : ℕ → Outcome (List Configuration) → KeyPlace
+abbrev pub keyPlaceIn : ℕ → Result (List Configuration) → KeyPlace
 keyPlaceIn id (good cs) = firstWithId id cs
 keyPlaceIn id (bad r) = KeyPlace.Refused r
 
@@ -35,25 +33,3 @@ keyPlaceIn id (bad r) = KeyPlace.Refused r
 abbrev pub keyPart : List ℕ → KeyPlace → List ℕ
 keyPart bytes (KeyPlace.Found from to) = part bytes from (to - from)
 keyPart bytes (KeyPlace.Refused r) = []
-
--- the fields of the configuration whose length stands at an offset, and where its parts lie
-abbrev pub placeOf : List ℕ → ℕ → Place
-placeOf bytes at =
-    record {
-      «key_id» = keyIdAt bytes at;
-      kem = kemAt bytes at;
-      «key_start» = keyStart at;
-      «key_end» = keyEnd bytes at;
-      end = nextStart bytes at;
-    }
-
--- the same, and nothing past the end
-abbrev pub placeAt : List ℕ → ℕ → Place
-placeAt bytes at =
-    pick (ltb at (length bytes))
-    (placeOf bytes at)
-    (record { «key_id» = 0; kem = 0; «key_start» = 0; «key_end» = 0; end = at })
-
--- the list reads into configurations
-abbrev pub IsGood : List ℕ → Type 0
-IsGood bytes = (cs : List Configuration) × (parse bytes ≡ good cs)

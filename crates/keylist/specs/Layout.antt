@@ -28,9 +28,9 @@ pub record Configuration : Type 0 where
   pub pairs : List Pair
 
 -- a result, or a refusal
-pub data Outcome (A : Type 0) : Type 0 where
-  good : A → Outcome A
-  bad : Refusal → Outcome A
+pub data Result (A : Type 0) : Type 0 where
+  good : A → Result A
+  bad : Refusal → Result A
 
 -- The fields of the configuration whose length stands at an offset: L, key id, KEM, S, and where its parts lie.
 abbrev pub lengthAt : List ℕ → ℕ → ℕ
@@ -56,6 +56,10 @@ pairsStart bytes at = keyEnd bytes at + 2
 
 abbrev pub nextStart : List ℕ → ℕ → ℕ
 nextStart bytes at = at + 2 + lengthAt bytes at
+
+-- both halves of a pair
+abbrev pub isPair : ℕ → ℕ → Pair → Bool
+isPair kdf aead pair = eqb (pair .kdf) kdf and eqb (pair .aead) aead
 
 -- as many pairs, one after the other
 unfoldable pub pairsAt : ℕ → List ℕ → ℕ → List Pair
@@ -86,12 +90,12 @@ layoutHolds bytes at =
     and pairBytesHold (pairBytesAt bytes at)
 
 -- a configuration in front of those that follow
-abbrev pub followedBy : Configuration → Outcome (List Configuration) → Outcome (List Configuration)
+abbrev pub followedBy : Configuration → Result (List Configuration) → Result (List Configuration)
 followedBy c (good cs) = good (c ∷ cs)
 followedBy c (bad r) = bad r
 
 -- the configurations from an offset on, where so many more may come and these key ids are taken
-unfoldable pub parseFrom : ℕ → List ℕ → List ℕ → ℕ → Outcome (List Configuration)
+unfoldable pub parseFrom : ℕ → List ℕ → List ℕ → ℕ → Result (List Configuration)
 parseFrom zero taken bytes at = pick (leb (length bytes) at) (good []) (bad (badList at))
 parseFrom (suc more) taken bytes at =
     pick (leb (length bytes) at) (good [])
@@ -100,6 +104,6 @@ parseFrom (suc more) taken bytes at =
     (bad (badList at)))
 
 -- a list is one configuration or more; a bad one is refused whole, at its first bad configuration
-unfoldable pub parse : List ℕ → Outcome (List Configuration)
+unfoldable pub parse : List ℕ → Result (List Configuration)
 parse [] = bad (badList 0)
 parse (b ∷ bytes) = parseFrom mostConfigurations [] (b ∷ bytes) 0

@@ -4,3 +4,4 @@ pub mod Layout
 pub mod Answers
 pub mod Stated
 pub mod Edges
+pub mod Helpers

@@ -1,15 +1,27 @@
--- When the key reader's part is empty.
+-- What the key reader hands back.
 use Prim.Native.Nat.{ℕ}
 use mathlib.Core.Path.{_≡_}
 use mathlib.Core.Logic.{_↔_}
 use mathlib.Core.List.{List, []}
-use Rattle.wire.specs.declared.refusal.Refusal.{Refusal}
+use mathlib.Core.Option.{some}
+use lib.Dec.{eqb}
+use lib.ListN.{length}
+use Rattle.wire.specs.Search.{firstThat}
+use Rattle.wire.specs.Refusals.{IsRefused}
+use Rattle.algorithms.specs.Sizes.{publicKeyLength}
 use Rattle.keylist.specs.declared.KeyPlace.{KeyPlace}
-use Rattle.keylist.specs.Layout.{parse}
+use Rattle.keylist.specs.Layout.{Configuration, good, parse}
 use Rattle.keylist.specs.Answers.{keyPlaceIn, keyPart}
 
--- the key reader's part is empty exactly on refusal
+-- "hands back the public key as a part of the lent list, its Npk bytes and no others"
+abbrev pub PublicKeyExactly : Type 0
+PublicKeyExactly =
+    (bytes : List ℕ) (id : ℕ) (cs : List Configuration) (c : Configuration)
+    → parse bytes ≡ good cs → firstThat (λ d. eqb (d .keyId) id) cs ≡ some c
+    → (keyPart bytes (keyPlaceIn id (parse bytes)) ≡ c .publicKey) × (length (c .publicKey) ≡ publicKeyLength (c .kem))
+
+-- "empty exactly on refusal"
 abbrev pub EmptyOnRefusal : Type 0
 EmptyOnRefusal =
     (bytes : List ℕ) (id : ℕ)
-    → (keyPart bytes (keyPlaceIn id (parse bytes)) ≡ []) ↔ ((r : Refusal) × (keyPlaceIn id (parse bytes) ≡ KeyPlace.Refused r))
+    → (keyPart bytes (keyPlaceIn id (parse bytes)) ≡ []) ↔ IsRefused KeyPlace.Refused (keyPlaceIn id (parse bytes))

@@ -1,7 +1,8 @@
 // Key reader: the public key of a key id, as a part of the list.
 ghost use mathlib.Core.Path.{_≡_};
 ghost use Rattle.keylist.specs.Layout.{parse};
-ghost use Rattle.keylist.specs.Answers.{keyPlaceIn, keyPart, IsGood};
+ghost use Rattle.keylist.specs.Answers.{keyPlaceIn, keyPart};
+ghost use Rattle.keylist.specs.Helpers.{IsGood};
 use crate::Checked;
 use crate::KeyId;
 use crate::KeyPlace;

@@ -3,4 +3,5 @@ pub mod Arrays
 pub mod Stored
 pub mod Parsed
 pub mod Reading
+pub mod Named
 pub mod Views

@@ -10,7 +10,7 @@ use lib.Dec.{eqb, ltb}
 use lib.ListN.{length}
 use Rattle.wire.specs.Search.{among, anyPasses}
 use Rattle.wire.proofs.Booleans.{either, and-right, true-or-false}
-use Rattle.keylist.specs.Layout.{Configuration, Outcome, good, bad, parse, parseFrom, followedBy, configurationAt, layoutHolds, keyIdAt, nextStart, mostConfigurations}
+use Rattle.keylist.specs.Layout.{Configuration, good, bad, parse, parseFrom, followedBy, configurationAt, layoutHolds, keyIdAt, nextStart, mostConfigurations, Result}
 use Rattle.keylist.proofs.Parsing.{goodAt, parse-end, parse-bad, parse-too-many, parse-more, parse-some, no-refusal}
 use Rattle.keylist.proofs.Walk.{not-empty}
 
@@ -60,7 +60,7 @@ parsed-one more taken c cs new p =
     record { few = omega (arith, p .few); distinct = (rest .1, p .distinct); fresh = (new, rest .0) }
 
 -- the configurations that follow a first one
-after : (more : ℕ) (taken : List ℕ) (c : Configuration) (p : Outcome (List Configuration)) (cs : List Configuration)
+after : (more : ℕ) (taken : List ℕ) (c : Configuration) (p : Result (List Configuration)) (cs : List Configuration)
     → among taken (c .keyId) ≡ false → ((rest : List Configuration) → p ≡ good rest → Parsed more (taken ++ c .keyId ∷ []) rest)
     → followedBy c p ≡ good cs → Parsed (suc more) taken cs
 after more taken c (bad r) cs new of e = no-refusal e

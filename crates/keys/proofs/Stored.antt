@@ -19,8 +19,8 @@ use Rattle.keys.specs.declared.KeyState.{KeyState}
 use Rattle.keys.specs.declared.Keys.{Keys}
 use Rattle.keys.specs.declared.KeyReport.{KeyReport}
 use Rattle.keylist.specs.Layout.{mostConfigurations}
-use Rattle.keys.specs.Keys.{Key, keyAt, noKey, offers, keyRefusal, retireRefusal, reportOf}
-use Rattle.keys.specs.Stored.{padded, keyOf, keysOf, blankReport, storedReports}
+use Rattle.keys.specs.Keys.{Key, offers, reportOf, blankReport, padded, storedReports, keyOf, keysOf}
+use Rattle.keys.specs.Helpers.{noKey, keyAt, keyRefusal, retireRefusalAt}
 use Rattle.keylist.proofs.Pair
 use Rattle.keys.proofs.KeyState
 use Rattle.keys.proofs.Keys
@@ -90,8 +90,8 @@ module _ (keys : Keys) (whole : length (keys .list) ≡ 16) where
   unfolding keyRefusal
   place-used cap place request e = omega (arith, length-keys, inside (length (keysOf keys)) place _ e)
 
-  pub place-retired : (place : ℕ) → retireRefusal (keysOf keys) place ≡ 0 → place < 16
-  unfolding retireRefusal
+  pub place-retired : (place : ℕ) → retireRefusalAt (keysOf keys) place ≡ 0 → place < 16
+  unfolding retireRefusalAt
   place-retired place e = omega (arith, length-keys, inside (length (keysOf keys)) place _ e)
 
   -- one report more

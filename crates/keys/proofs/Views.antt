@@ -9,8 +9,10 @@ use lib.Seq.{take-set-lt}
 use Rattle.keylist.specs.Layout.{Configuration, good, parse, mostConfigurations}
 use Rattle.keys.specs.declared.KeyState.{KeyState}
 use Rattle.keys.specs.declared.Keys.{Keys}
-use Rattle.keys.specs.Keys.{Key, freshKey, keyAt, noKey, withUse, withRetirement, changed}
-use Rattle.keys.specs.Stored.{mostPairs, padded, noPair, blankKey, keyOf, keysOf, storedKey, storedKeys, keysFrom, oneMore, usedState, retiredState, changedState}
+use Rattle.keys.specs.Keys.{Key, freshKey, withUse, withRetirement, padded, keyOf, keysOf}
+use Rattle.keys.specs.Helpers.{noKey, keyAt, keysFrom}
+use Rattle.keys.specs.Stored.{mostPairs, noPair, blankKey, storedKey, storedKeys, oneMore, usedState, retiredState, changedState}
+use Rattle.keys.proofs.Named.{changedAt}
 use Rattle.keys.proofs.Arrays.{take-padded, map-set, length-stored, stored-at}
 use Rattle.keys.proofs.Parsed.{Distinct, ids, parsed}
 
@@ -28,7 +30,7 @@ module _ (ks : Keys) (place : ℕ) (h : place < length (keysOf ks)) where
   -- a change of the stored key at a place is one of the key there
   changed-view : (change : KeyState → KeyState) (to : Key → Key)
       → keyOf (change (getD (ks .list) place blankKey)) ≡ to (keyOf (getD (ks .list) place blankKey))
-      → keysOf (changedState change place ks) ≡ changed to place (keysOf ks)
+      → keysOf (changedState change place ks) ≡ changedAt to place (keysOf ks)
   unfolding keysOf
   changed-view change to e =
       let stored = change (getD (ks .list) place blankKey) in
@@ -38,7 +40,7 @@ module _ (ks : Keys) (place : ℕ) (h : place < length (keysOf ks)) where
 
   -- one use more, as long as the count is not the largest number
   pub used-view : keyAt (keysOf ks) place .count < 2 ^ 32 - 1
-      → keysOf (changedState usedState place ks) ≡ changed withUse place (keysOf ks)
+      → keysOf (changedState usedState place ks) ≡ changedAt withUse place (keysOf ks)
   used-view l =
       let k = keyOf (getD (ks .list) place blankKey) in
       let count : keyAt (keysOf ks) place .count ≡ k .count = ap (λ (key : Key). key .count) (here .1) in
@@ -46,7 +48,7 @@ module _ (ks : Keys) (place : ℕ) (h : place < length (keysOf ks)) where
       changed-view usedState withUse
       (ap (λ (n : ℕ). withCount k n) one)
 
-  pub retired-view : keysOf (changedState retiredState place ks) ≡ changed withRetirement place (keysOf ks)
+  pub retired-view : keysOf (changedState retiredState place ks) ≡ changedAt withRetirement place (keysOf ks)
   retired-view = changed-view retiredState withRetirement refl
 
 -- a configuration that is stored is a fresh key

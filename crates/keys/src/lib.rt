@@ -5,10 +5,11 @@ ghost use mathlib.Core.Bool.{true};
 ghost use mathlib.Core.List.{[]};
 ghost use lib.Dec.{ltb};
 ghost use lib.ListN.{length};
-ghost use Rattle.keylist.specs.Layout.{parse, layoutHolds, configurationAt, pairsAt};
-ghost use Rattle.keylist.specs.Answers.{IsGood};
-ghost use Rattle.keys.specs.Keys.{placeOfKey, isPair, offers, keyRefusal, retireRefusal, reportOf};
-ghost use Rattle.keys.specs.Stored.{mostPairs, padded, noPair, blankKey, keyOf, keysOf, storedKey, storedKeys, keysFrom, keysRead, oneMore, usedState, retiredState, storedReports};
+ghost use Rattle.keylist.specs.Layout.{parse, layoutHolds, configurationAt, pairsAt, isPair};
+ghost use Rattle.keylist.specs.Helpers.{IsGood};
+ghost use Rattle.keys.specs.Keys.{offers, reportOf, padded, storedReports, keyOf, keysOf};
+ghost use Rattle.keys.specs.Helpers.{placeOfKey, keyRefusal, retireRefusalAt, keysFrom, keysRead};
+ghost use Rattle.keys.specs.Stored.{mostPairs, noPair, blankKey, storedKey, storedKeys, oneMore, usedState, retiredState};
 use algorithms::Aead;
 use algorithms::Kdf;
 use algorithms::is_known_pair;
@@ -230,7 +231,7 @@ impl Keys {
 
     // The first refusal to retire the key at a place, 0 where there is none.
     pub fn retire_refusal(self, place: usize) -> u8
-        ensures { λ r. ⌜ r ≡ retireRefusal (keysOf self) place ⌝ }
+        ensures { λ r. ⌜ r ≡ retireRefusalAt (keysOf self) place ⌝ }
     {
         if !self.has(place) {
             return Refusal::NO_SUCH_KEY;

@@ -14,7 +14,8 @@ use lib.Dec.{eqb, leb}
 use lib.ListN.{length, getD, take, drop, length-drop, length-take, length-append, drop-of-length-le}
 use lib.Seq.{drop-drop, drop-cons, getD-drop, take-suc, take-add, take-append-seam, length-take-le}
 use Rattle.wire.specs.Tests.{pick, _and_}
-use Rattle.wire.specs.Bytes.{overwritten, withFront}
+use Rattle.wire.specs.Bytes.{withFront}
+use Rattle.wire.specs.Helpers.{overwritten}
 use Rattle.wire.specs.Search.{among}
 use Rattle.wire.specs.Refusals.{badList}
 use Rattle.wire.proofs.Booleans.{either, and-left}
@@ -22,7 +23,7 @@ use Rattle.wire.proofs.Writes.{front-more}
 use Rattle.wire.proofs.Words.{words-length}
 use Rattle.algorithms.proofs.Stated.{size-bounds}
 use Rattle.listwriter.specs.declared.Written.{Written}
-use Rattle.keylist.specs.Layout.{Outcome, good, bad, mostConfigurations}
+use Rattle.keylist.specs.Layout.{good, bad, mostConfigurations, Result}
 use Rattle.listwriter.specs.Writer.{Fields, fieldsFrom, fieldsHold, firstHolds, firstKem, firstKeyLength, firstPairCount, firstPairs, behindFirst, noneLeft, lengthOf, firstLength, firstBytes, inFrontOf, encodeFrom, encode, lengthWritten}
 use Rattle.keylist.proofs.Parsing.{no-refusal}
 use Rattle.listwriter.proofs.OneConfiguration.{first-says, same-fields}
@@ -117,16 +118,16 @@ module _ (more : ℕ) (taken : List ℕ) (at : ℕ) (ids : List ℕ) (i : ℕ) (
   encode-more h e = rw (drop-cons ids i 0 h, e, add-one i)
 
 -- the length, with so many bytes before
-unfoldable pub lengthFrom : ℕ → Outcome (List ℕ) → Written
+unfoldable pub lengthFrom : ℕ → Result (List ℕ) → Written
 lengthFrom n (good bytes) = Written.Length (n + length bytes)
 lengthFrom n (bad r) = Written.Refused r
 
-pub length-from-none : (o : Outcome (List ℕ)) → lengthWritten o ≡ lengthFrom 0 o
+pub length-from-none : (o : Result (List ℕ)) → lengthWritten o ≡ lengthFrom 0 o
 unfolding lengthFrom
 length-from-none (good bytes) = ap Written.Length (omega arith)
 length-from-none (bad r) = refl
 
-pub length-from-more : (n : ℕ) (front : List ℕ) (o : Outcome (List ℕ)) → lengthFrom n (inFrontOf front o) ≡ lengthFrom (n + length front) o
+pub length-from-more : (n : ℕ) (front : List ℕ) (o : Result (List ℕ)) → lengthFrom n (inFrontOf front o) ≡ lengthFrom (n + length front) o
 unfolding lengthFrom
 length-from-more n front (good bytes) = ap Written.Length (simp length-append (omega arith))
 length-from-more n front (bad r) = refl
@@ -162,7 +163,7 @@ module _ (ids : List ℕ) (f : Fields) (i at k p : ℕ) (w : Within ids f i at k
   within-next h l = let b = bounds-from in search needs
 
 -- the encoding from an index on, and the test of the configuration there
-abbrev pub encodeAt : List ℕ → Fields → ℕ → ℕ → ℕ → ℕ → Outcome (List ℕ)
+abbrev pub encodeAt : List ℕ → Fields → ℕ → ℕ → ℕ → ℕ → Result (List ℕ)
 encodeAt ids f i at k p = encodeFrom (mostConfigurations - i) (take i ids) at (drop i ids) (fieldsFrom f i k p)
 
 abbrev pub writableAt : List ℕ → Fields → ℕ → ℕ → ℕ → Bool
@@ -220,7 +221,7 @@ pub record MoreGood (ids : List ℕ) (f : Fields) (i at k p : ℕ) (bytes : List
       (k + getD (f .keyLengths) i 0) (p + getD (f .pairCounts) i 0) ≡ good rest
   pub split : bytes ≡ firstBytes (getD ids i 0) (fieldsFrom f i k p) ++ rest
 
-front-split : (front : List ℕ) (o : Outcome (List ℕ)) (bytes : List ℕ) → inFrontOf front o ≡ good bytes
+front-split : (front : List ℕ) (o : Result (List ℕ)) (bytes : List ℕ) → inFrontOf front o ≡ good bytes
     → (rest : List ℕ) × (o ≡ good rest) × (bytes ≡ front ++ rest)
 front-split front (good rest) bytes e = (rest, refl, cc)
 front-split front (bad r) bytes e = no-refusal e

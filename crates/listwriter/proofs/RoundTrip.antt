@@ -12,7 +12,7 @@ use Rattle.wire.specs.Tests.{pick, _and_}
 use Rattle.wire.specs.Search.{among}
 use Rattle.wire.specs.Refusals.{badList}
 use Rattle.wire.proofs.Booleans.{either, and-left, and-right}
-use Rattle.keylist.specs.Layout.{Configuration, Outcome, good, bad, keyIdAt, nextStart, configurationAt, layoutHolds, followedBy, parseFrom, parse, mostConfigurations}
+use Rattle.keylist.specs.Layout.{Configuration, good, bad, keyIdAt, nextStart, configurationAt, layoutHolds, followedBy, parseFrom, parse, mostConfigurations, Result}
 use Rattle.listwriter.specs.Writer.{Fields, noneLeft, behindFirst, firstHolds, firstLength, firstBytes, inFrontOf, encodeFrom, encode}
 use Rattle.listwriter.specs.Stated.{AreBytes, idsOf, fieldsOf, joined, ReadAfterWrite, WriteAfterRead}
 use Rattle.keylist.proofs.LayoutLaws.{both, holds}
@@ -25,14 +25,14 @@ end-given : {A : Type 0} (test : Bool) (at : ℕ) {found : List A} → pick test
 end-given true at e = (refl, cc)
 end-given false at e = no-refusal e
 
-front-given : (test : Bool) (front : List ℕ) (o : Outcome (List ℕ)) (at : ℕ) {bytes : List ℕ}
+front-given : (test : Bool) (front : List ℕ) (o : Result (List ℕ)) (at : ℕ) {bytes : List ℕ}
     → pick test (inFrontOf front o) (bad (badList at)) ≡ good bytes
     → (rest : List ℕ) × (test ≡ true) × (o ≡ good rest) × (front ++ rest ≡ bytes)
 front-given true front (good rest) at e = (rest, refl, refl, cc)
 front-given true front (bad r) at e = no-refusal e
 front-given false front o at e = no-refusal e
 
-first-given : (test : Bool) (c : Configuration) (o : Outcome (List Configuration)) (at : ℕ) {cs : List Configuration}
+first-given : (test : Bool) (c : Configuration) (o : Result (List Configuration)) (at : ℕ) {cs : List Configuration}
     → pick test (followedBy c o) (bad (badList at)) ≡ good cs
     → (rest : List Configuration) × (test ≡ true) × (o ≡ good rest) × (c ∷ rest ≡ cs)
 first-given true c (good rest) at e = (rest, refl, refl, cc)
@@ -105,6 +105,6 @@ pub write-after-read : WriteAfterRead
 unfolding encode parse encodeFrom joined
 write-after-read [] cs all e = no-refusal e
 write-after-read (b ∷ bytes) [] all e =
-    let written : _≡_ {A = Outcome (List ℕ)} (good []) (good (b ∷ bytes)) = write-from mostConfigurations [] (b ∷ bytes) 0 [] all e in
+    let written : _≡_ {A = Result (List ℕ)} (good []) (good (b ∷ bytes)) = write-from mostConfigurations [] (b ∷ bytes) 0 [] all e in
     absurd (let z : _≡_ {A = ℕ} 0 1 = cc in omega arith)
 write-after-read (b ∷ bytes) (c ∷ cs) all e = write-from mostConfigurations [] (b ∷ bytes) 0 (c ∷ cs) all e

@@ -8,11 +8,12 @@ use native.Mathlib.Omega.{arith}
 use borrow.Author.Tests.{le-leb, lt-leb}
 use lib.ListN.{length, getD, take, drop, length-drop, length-take, length-append}
 use lib.Seq.{take-all, drop-at, drop-drop, length-take-le}
-use Rattle.wire.specs.Bytes.{overwritten, withFront}
+use Rattle.wire.specs.Bytes.{withFront}
+use Rattle.wire.specs.Helpers.{overwritten}
 use Rattle.wire.specs.Search.{among}
 use Rattle.wire.proofs.Booleans.{and-left}
 use Rattle.wire.proofs.Writes.{front-length}
-use Rattle.keylist.specs.Layout.{Outcome, good, bad, mostConfigurations}
+use Rattle.keylist.specs.Layout.{good, bad, mostConfigurations, Result}
 use Rattle.listwriter.specs.Writer.{Fields, fieldsFrom, firstHolds, firstBytes, lengthOf, configurationBytes, encode, lengthWritten, writtenIn, writtenTo, Fitting}
 use Rattle.listwriter.specs.declared.Written.{Written}
 use Rattle.wire.specs.declared.refusal.Refusal.{Refusal}
@@ -111,17 +112,17 @@ module _ {ids : List ℕ} {f : Fields} {start buffer : List ℕ} {i at k p : ℕ
         }
 
 -- what the first walk's answer says of the outcome
-length-good : (outcome : Outcome (List ℕ)) (n : ℕ) → lengthWritten outcome ≡ Written.Length n
+length-good : (outcome : Result (List ℕ)) (n : ℕ) → lengthWritten outcome ≡ Written.Length n
     → (bytes : List ℕ) × (outcome ≡ good bytes) × (length bytes ≡ n)
 length-good (good bytes) n e = (bytes, refl, cc)
 length-good (bad r) n e = absurd (let z : _≡_ {A = ℕ} 0 1 = cc in omega arith)
 
-length-bad : (outcome : Outcome (List ℕ)) (r : Refusal) → lengthWritten outcome ≡ Written.Refused r → outcome ≡ bad r
+length-bad : (outcome : Result (List ℕ)) (r : Refusal) → lengthWritten outcome ≡ Written.Refused r → outcome ≡ bad r
 length-bad (good bytes) r e = absurd (let z : _≡_ {A = ℕ} 0 1 = cc in omega arith)
 length-bad (bad s) r e = cc
 
 -- the writer's answer and buffer, from the length that its first walk answered
-module _ (outcome : Outcome (List ℕ)) (buffer : List ℕ) where
+module _ (outcome : Result (List ℕ)) (buffer : List ℕ) where
   pub answer-refused : (r : Refusal) → lengthWritten outcome ≡ Written.Refused r
       → (Written.Refused r ≡ writtenIn (length buffer) outcome) × (buffer ≡ writtenTo buffer outcome)
   answer-refused r e = let is = length-bad outcome r e in (rw is, rw is)

@@ -11,7 +11,7 @@ use Rattle.wire.specs.Bytes.{wordBytes, wordsBytes, withFront}
 use Rattle.wire.specs.Search.{among}
 use Rattle.wire.specs.Refusals.{badList, refused}
 use Rattle.algorithms.specs.Sizes.{knownKem, publicKeyLength}
-use Rattle.keylist.specs.Layout.{Outcome, good, bad, mostConfigurations, pairBytesHold}
+use Rattle.keylist.specs.Layout.{good, bad, mostConfigurations, pairBytesHold, Result}
 use Rattle.listwriter.specs.declared.Written.{Written}
 
 -- the fields beside the key ids
@@ -103,12 +103,12 @@ firstBytes keyId f =
     configurationBytes keyId (firstKem f) (firstKeyLength f) (firstKey f) (firstPairCount f) (firstPairs f)
 
 -- bytes in front of those that follow
-abbrev pub inFrontOf : List ℕ → Outcome (List ℕ) → Outcome (List ℕ)
+abbrev pub inFrontOf : List ℕ → Result (List ℕ) → Result (List ℕ)
 inFrontOf bytes (good more) = good (bytes ++ more)
 inFrontOf bytes (bad r) = bad r
 
 -- the bytes of the configurations from an offset on, where so many more may come and these key ids are taken
-unfoldable pub encodeFrom : ℕ → List ℕ → ℕ → List ℕ → Fields → Outcome (List ℕ)
+unfoldable pub encodeFrom : ℕ → List ℕ → ℕ → List ℕ → Fields → Result (List ℕ)
 encodeFrom more taken at [] f = pick (noneLeft f) (good []) (bad (badList at))
 encodeFrom zero taken at (id ∷ ids) f = bad (badList at)
 encodeFrom (suc more) taken at (id ∷ ids) f =
@@ -117,25 +117,25 @@ encodeFrom (suc more) taken at (id ∷ ids) f =
     (bad (badList at))
 
 -- a list is one configuration or more
-unfoldable pub encode : List ℕ → Fields → Outcome (List ℕ)
+unfoldable pub encode : List ℕ → Fields → Result (List ℕ)
 encode [] f = bad (badList 0)
 encode (id ∷ ids) f = encodeFrom mostConfigurations [] 0 (id ∷ ids) f
 
 -- the length of the list, or the refusal, before any buffer is looked at
-abbrev pub lengthWritten : Outcome (List ℕ) → Written
+abbrev pub lengthWritten : Result (List ℕ) → Written
 lengthWritten (good bytes) = Written.Length (length bytes)
 lengthWritten (bad r) = Written.Refused r
 
 -- the answer for a buffer of a length: 15 with the place, then 14, or the length written
-abbrev pub writtenIn : ℕ → Outcome (List ℕ) → Written
+abbrev pub writtenIn : ℕ → Result (List ℕ) → Written
 writtenIn room (good bytes) = pick (leb (length bytes) room) (Written.Length (length bytes)) (Written.Refused (refused 14))
 writtenIn room (bad r) = Written.Refused r
 
 -- the buffer after it
-abbrev pub writtenTo : List ℕ → Outcome (List ℕ) → List ℕ
+abbrev pub writtenTo : List ℕ → Result (List ℕ) → List ℕ
 writtenTo buffer (good bytes) = pick (leb (length bytes) (length buffer)) (withFront bytes buffer) buffer
 writtenTo buffer (bad r) = buffer
 
 -- the fields keep the layout's rules, and there is room for their list
-abbrev pub Fitting : Outcome (List ℕ) → ℕ → Type 0
+abbrev pub Fitting : Result (List ℕ) → ℕ → Type 0
 Fitting outcome room = (bytes : List ℕ) × (outcome ≡ good bytes) × (length bytes ≤ room)

@@ -8,11 +8,12 @@ use native.Mathlib.Omega.{arith}
 use lib.Dec.{ltb}
 use lib.ListN.{length, take, replicate}
 use borrow.Author.Tests.{ltb-false, le-ltb}
-use Rattle.wire.specs.Bytes.{overwritten, roomFor}
-use Rattle.wire.specs.Texts.{headLength}
+use Rattle.wire.specs.Helpers.{roomFor, overwritten}
+use Rattle.wire.specs.Texts.{headLength, longestRequest}
 use Rattle.wire.proofs.Booleans.{either}
 use Rattle.algorithms.specs.Sizes.{knownKem, shortestRequest}
-use Rattle.request.specs.Request.{requestRefusal, kemOf, longestRequest}
+use Rattle.request.specs.Request.{kemOf}
+use Rattle.request.specs.Helpers.{requestRefusal}
 
 -- not refused: the KEM is known, and the length is neither too short for it nor too long
 pub accepted-request : (request : List ℕ) → requestRefusal request ≡ 0

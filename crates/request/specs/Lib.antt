@@ -1,2 +1,3 @@
 -- 01, "Layouts", the request.
 pub mod Request
+pub mod Helpers

@@ -2,10 +2,10 @@
 ghost use mathlib.Core.Path.{_≡_};
 ghost use Prim.Native.Nat.{_≤_};
 ghost use lib.ListN.{replicate};
-ghost use Rattle.wire.specs.Bytes.{overwritten};
+ghost use Rattle.wire.specs.Helpers.{overwritten};
 ghost use Rattle.wire.specs.Texts.{headLength, infoBytes};
 ghost use Rattle.algorithms.specs.Sizes.{encLength};
-ghost use Rattle.request.specs.Request.{parsed, requestRefusal, noFields};
+ghost use Rattle.request.specs.Helpers.{requestRefusal, noFields, parsed};
 use algorithms::Kem;
 use algorithms::Size;
 use keylist::KeyId;

@@ -1,6 +1,6 @@
 -- What a call on a ticket that brings no bytes changes, by the gateway's own contract.
 -- Assumes nothing.
-use mathlib.Core.Path.{_≡_, refl, sym, ap, _∙_}
+use mathlib.Core.Path.{_≡_, refl, ap, _∙_}
 use mathlib.Core.List.{[]}
 use Prim.Native.Nat.{ℕ, zero, suc}
 use Rattle.wire.specs.Refusals.{written}
@@ -11,7 +11,8 @@ use Rattle.exchange.specs.Steps.{bare, refusal}
 use Rattle.gateway.specs.declared.Gateway.{Gateway}
 use Rattle.gateway.specs.declared.change.Change.{Change}
 use Rattle.gateway.specs.Change.{changed, Fits}
-use Rattle.gateway.specs.Calls.{Answer, onTicket, ofStep, gatewayDoes}
+use Rattle.gateway.specs.Calls.{Answer, onTicket, ofStep}
+use Rattle.gateway.specs.Gateway.{gatewayDoes}
 use Rattle.results.specs.Calls.{Changes}
 
 -- nothing is written into no buffer

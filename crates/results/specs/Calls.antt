@@ -4,7 +4,7 @@ use Prim.Native.Nat.{ℕ}
 use mathlib.Core.Bool.{Bool, true, false}
 use mathlib.Core.List.{List, []}
 use Rattle.exchange.specs.declared.StepAnswer.{StepAnswer}
-use Rattle.keys.specs.Stored.{storedReports}
+use Rattle.keys.specs.Keys.{storedReports}
 use Rattle.gateway.specs.declared.SetupAnswer.{SetupAnswer}
 use Rattle.gateway.specs.declared.AdmitAnswer.{AdmitAnswer}
 use Rattle.gateway.specs.declared.RetireAnswer.{RetireAnswer}
@@ -14,7 +14,8 @@ use Rattle.gateway.specs.declared.admission.AdmitRefusal.{AdmitRefusal}
 use Rattle.gateway.specs.declared.Gateway.{Gateway}
 use Rattle.gateway.specs.declared.change.Change.{Change}
 use Rattle.gateway.specs.Change.{changed, Fits}
-use Rattle.gateway.specs.Calls.{Call, Answer, ofAdmit, ofRetire, ofStep, ofReport, gatewayDoes}
+use Rattle.gateway.specs.Calls.{Call, Answer, ofAdmit, ofRetire, ofStep, ofReport}
+use Rattle.gateway.specs.Gateway.{gatewayDoes}
 use Rattle.results.specs.declared.outcome.Outcome.{Outcome}
 use Rattle.results.specs.declared.outcome.NumberResult.{NumberResult}
 use Rattle.results.specs.declared.gateway_calls.AdmitResult.{AdmitResult}

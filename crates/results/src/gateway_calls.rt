@@ -6,8 +6,8 @@ ghost use lib.Dec.{eqb};
 ghost use Rattle.exchange.specs.Steps.{step, bare, openResult, respond, abandon};
 ghost use Rattle.gateway.specs.Registry.{setup, setupAnswer};
 ghost use Rattle.gateway.specs.Gateway.{freshGateway};
-ghost use Rattle.gateway.specs.Calls.{admit, retire, onTicket, reporting, ofAdmit, ofRetire, ofStep, gatewayDoes};
-ghost use Rattle.results.specs.Calls.{Changes, ticketResult, outcomeOf, problemType, setupResult, admitResult, stepResult, reportResult};
+ghost use Rattle.gateway.specs.Calls.{admit, retire, onTicket, reporting, ofAdmit, ofRetire};
+ghost use Rattle.results.specs.Calls.{Does, Changes, ticketResult, outcomeOf, problemType, setupResult, admitResult, stepResult, reportResult};
 use crate::outcome::NumberResult;
 use crate::outcome::Outcome;
 use exchange::Move;
@@ -201,7 +201,7 @@ pub fn retire(gateway: Gateway, key_id: u8) -> OutcomeDone
 
 // Report: last ticket, number pending, and each key's count and retirement. Nothing changes.
 pub fn report(gateway: Gateway) -> ReportResult
-    ensures { λ r. ⌜ r ≡ reportResult (gatewayDoes gateway reporting .answer) ⌝ }
+    ensures { λ r. ⌜ Does reportResult reporting gateway gateway r [] ⌝ }
 {
     let report = gateway.report();
     let keys = report.keys;

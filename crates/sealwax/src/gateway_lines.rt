@@ -1,9 +1,9 @@
 // The lines that call the gateway.
 ghost use mathlib.Core.Path.{_≡_};
 ghost use Rattle.exchange.specs.Steps.{step};
-ghost use Rattle.gateway.specs.Gateway.{freshGateway};
-ghost use Rattle.gateway.specs.Calls.{admit, retire, onTicket, gatewayDoes};
-ghost use Rattle.sealwax.specs.Calls.{lent, gatewayAfter};
+ghost use Rattle.gateway.specs.Gateway.{freshGateway, gatewayDoes};
+ghost use Rattle.gateway.specs.Calls.{admit, retire, onTicket};
+ghost use Rattle.sealwax.specs.Calls.{filled, gatewayAfterLine};
 use crate::lines;
 use crate::output::OutputBuffer;
 use crate::parts::FILL;
@@ -86,7 +86,7 @@ pub(crate) fn answer(
     out: &mut OutputBuffer,
     at: usize,
 ) -> Answered
-    ensures { λ r. ⌜ r .gateway ≡ gatewayAfter gateway call (now (bytes .entry)) (now (nonce .entry)) ⌝ }
+    ensures { λ r. ⌜ r .gateway ≡ gatewayAfterLine gateway call (now (bytes .entry)) (now (nonce .entry)) ⌝ }
 {
     match call {
         Call::Setup(cap) => setup(bytes, cap, out, at),
@@ -113,7 +113,7 @@ fn setup(list: &[u8], cap: u64, out: &mut OutputBuffer, at: usize) -> Answered
 }
 
 fn admit(gateway: Gateway, request: &[u8], room: u64, out: &mut OutputBuffer, at: usize) -> Answered
-    ensures { λ r. ⌜ r .gateway ≡ gatewayDoes gateway (admit (now (request .entry)) (lent room)) .state ⌝ }
+    ensures { λ r. ⌜ r .gateway ≡ gatewayDoes gateway (admit (now (request .entry)) (filled room)) .state ⌝ }
 {
     let front = 0;
     let room = room_of(room, MOST_ROOM);
@@ -157,7 +157,7 @@ fn step(
     at: usize,
 ) -> Answered
     ensures { λ r. ⌜ r .gateway ≡ gatewayDoes gateway
-        (onTicket ticket (step asks (now (enc .entry)) (now (nonce .entry)) (lent room))) .state ⌝ }
+        (onTicket ticket (step asks (now (enc .entry)) (now (nonce .entry)) (filled room))) .state ⌝ }
 {
     let front = 0;
     let room = room_of(room, MOST_ROOM);

@@ -5,7 +5,7 @@ use mathlib.Core.List.{List, _++_}
 use Prim.Native.Nat.{ℕ}
 use native.Mathlib.Omega.{arith}
 use lib.ListN.{length, replicate, length-append}
-use Rattle.wire.specs.Bytes.{overwritten}
+use Rattle.wire.specs.Helpers.{overwritten}
 use Rattle.wire.specs.Texts.{requestLabel, infoBytes}
 use Rattle.wire.proofs.Writes.{front-first, front-more, front-whole}
 

@@ -3,6 +3,7 @@
 use mathlib.Core.Path.{_≡_, refl, ap}
 use mathlib.Core.Bool.{Bool, true, false, not}
 use mathlib.Core.List.{List, [], _∷_}
+use mathlib.Core.Option.{none as nothing, some}
 use Prim.Native.Nat.{ℕ, zero, suc, _-_, _≤_, _<_, suc-le-suc}
 use native.Mathlib.Nat.{not-suc-le-zero, le-of-suc-le-suc}
 use native.Mathlib.Omega.{arith}
@@ -11,7 +12,7 @@ use lib.Dec.{eqb, leb, ltb}
 use lib.ListN.{length, getD}
 use Rattle.wire.specs.Tests.{pick}
 use Rattle.wire.proofs.Booleans.{either, true-or-false}
-use Rattle.wire.specs.Search.{firstPlace, anyPasses, among}
+use Rattle.wire.specs.Search.{firstPlace, firstThat, anyPasses, among}
 
 later : (b : Bool) {rest : Bool} → rest ≡ true → pick b true rest ≡ true
 later true e = refl
@@ -64,6 +65,18 @@ module _ {A : Type 0} (default : A) (test : A → Bool) where
   unfolding anyPasses
   any-none [] none = refl
   any-none (x ∷ xs) none = rw (none 0 (omega arith)) (any-none xs (λ j l. none (suc j) (suc-le-suc l)))
+
+  -- the first match as an element, where there is one
+  pub that-inside : (xs : List A) → firstPlace test xs < length xs → firstThat test xs ≡ some (getD xs (firstPlace test xs) default)
+  unfolding firstPlace firstThat
+  that-inside [] h = absurd (not-suc-le-zero h)
+  that-inside (x ∷ xs) h = either (test x) (λ e. rw e) (λ e. rw e (that-inside xs (le-of-suc-le-suc (rw e at h))))
+
+  pub that-outside : (xs : List A) → length xs ≤ firstPlace test xs → firstThat test xs ≡ nothing
+  unfolding firstPlace firstThat
+  that-outside [] h = refl
+  that-outside (x ∷ xs) h =
+      either (test x) (λ e. absurd (not-suc-le-zero (rw e at h))) (λ e. rw e (that-outside xs (le-of-suc-le-suc (rw e at h))))
 
   -- whether some element passes is whether the first match is inside
   pub any-by-place : (xs : List A) → not (anyPasses test xs) ≡ leb (length xs) (firstPlace test xs)

@@ -7,7 +7,8 @@ use native.Mathlib.Nat.{zero-add, add-assoc}
 use native.Mathlib.Omega.{arith}
 use lib.ListN.{length, take, drop, length-append, length-drop, length-take}
 use lib.Seq.{paste-zero, take-length, drop-length, take-append-seam, drop-append-add, drop-drop}
-use Rattle.wire.specs.Bytes.{overwritten, roomFor, withFront}
+use Rattle.wire.specs.Bytes.{withFront}
+use Rattle.wire.specs.Helpers.{roomFor, overwritten}
 
 -- past the end nothing is written
 pub overwritten-beyond : (buffer : List ℕ) (at : ℕ) (bytes : List ℕ) → length buffer ≤ at → overwritten buffer at bytes ≡ buffer

@@ -1,5 +1,5 @@
 -- Reads of bytes and of big-endian numbers of two bytes, parts, and buffers with bytes written into them.
-use Prim.Native.Nat.{ℕ, _+_, _-_, _*_, _/_, _%_, min}
+use Prim.Native.Nat.{ℕ, _+_, _*_, _/_, _%_}
 use mathlib.Core.List.{List, [], _∷_, _++_}
 use lib.ListN.{length, getD, take, drop}
 
@@ -27,12 +27,3 @@ part bytes at count = take count (drop at bytes)
 -- a buffer with bytes written at its front; the rest stays
 abbrev pub withFront : List ℕ → List ℕ → List ℕ
 withFront bytes buffer = bytes ++ drop (length bytes) buffer
-
--- how many of `bytes` there is room for from an offset of the buffer
-abbrev pub roomFor : List ℕ → ℕ → List ℕ → ℕ
-roomFor buffer at bytes = min (length bytes) (length buffer - at)
-
--- a buffer with as many of `bytes` as there is room for written from an offset; the rest stays
-abbrev pub overwritten : List ℕ → ℕ → List ℕ → List ℕ
-overwritten buffer at bytes =
-    take at buffer ++ take (roomFor buffer at bytes) bytes ++ drop (at + roomFor buffer at bytes) buffer

@@ -4,3 +4,4 @@ pub mod Bytes
 pub mod Refusals
 pub mod Search
 pub mod Texts
+pub mod Helpers

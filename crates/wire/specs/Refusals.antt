@@ -2,7 +2,7 @@
 use Prim.Native.Nat.{ℕ, zero, suc}
 use mathlib.Core.Bool.{Bool, true, false}
 use mathlib.Core.List.{List}
-use lib.Dec.{eqb}
+use mathlib.Core.Path.{_≡_}
 use Rattle.wire.specs.Bytes.{withFront}
 use Rattle.wire.specs.declared.refusal.Refusal.{Refusal}
 
@@ -20,10 +20,6 @@ refused n = record { number = n; place = 0 }
 abbrev pub badList : ℕ → Refusal
 badList at = record { number = 15; place = at }
 
--- 01, "It returns the number, and for 15 also a place"
-abbrev pub hasPlace : Refusal → Bool
-hasPlace r = eqb (r .number) 15
-
 -- by a refusal number: with 0 the first, else the second
 abbrev pub unlessRefused : {A : Type 0} → ℕ → A → A → A
 unlessRefused zero a b = a
@@ -32,3 +28,7 @@ unlessRefused (suc n) a b = b
 -- a buffer, by a refusal number: with 0 the bytes stand at its front, else it is as it was
 abbrev pub written : ℕ → List ℕ → List ℕ → List ℕ
 written number bytes buffer = unlessRefused number (withFront bytes buffer) buffer
+
+-- the answer is a refusal: it is made so by the case that its type has for refusals
+abbrev pub IsRefused : {A : Type 0} → (Refusal → A) → A → Type 0
+IsRefused refusing answer = (r : Refusal) × (answer ≡ refusing r)

@@ -1,7 +1,8 @@
--- The first element of a list that passes a test.
+-- The first element of a list that passes a test, and its place.
 use Prim.Native.Nat.{ℕ, suc}
 use mathlib.Core.Bool.{Bool, true, false}
 use mathlib.Core.List.{List, [], _∷_}
+use mathlib.Core.Option.{Option, none, some}
 use lib.Dec.{eqb}
 use Rattle.wire.specs.Tests.{pick}
 
@@ -18,3 +19,18 @@ anyPasses test (x ∷ xs) = pick (test x) true (anyPasses test xs)
 -- the number is in the list
 abbrev pub among : List ℕ → ℕ → Bool
 among numbers number = anyPasses (λ n. eqb n number) numbers
+
+-- the first element that passes, if there is one
+unfoldable pub firstThat : {A : Type 0} → (A → Bool) → List A → Option A
+firstThat test [] = none
+firstThat test (x ∷ xs) = pick (test x) (some x) (firstThat test xs)
+
+-- there is none
+abbrev pub isNone : {A : Type 0} → Option A → Bool
+isNone none = true
+isNone (some x) = false
+
+-- there is one, and it passes
+abbrev pub isSomeThat : {A : Type 0} → (A → Bool) → Option A → Bool
+isSomeThat test none = false
+isSomeThat test (some x) = test x

@@ -2,7 +2,6 @@
 use mathlib.Core.Bool.{Bool, true, false}
 
 infixr 6 _and_
-infixr 5 _or_
 -- the first where the test holds, else the second
 abbrev pub pick : {A : Type 0} → Bool → A → A → A
 pick true a b = a
@@ -12,8 +11,3 @@ pick false a b = b
 abbrev pub _and_ : Bool → Bool → Bool
 _and_ true b = b
 _and_ false b = false
-
--- one of the tests holds
-abbrev pub _or_ : Bool → Bool → Bool
-_or_ true b = true
-_or_ false b = b

@@ -1,4 +1,5 @@
--- RFC 9458's fixed texts: the seven bytes in front of a request, info and the exporter context (01, "Layouts").
+-- RFC 9458's fixed texts: the seven bytes in front of a request, info and the exporter context; and the longest request and plain
+-- response (01, "Layouts").
 use Prim.Native.Nat.{ℕ}
 use Prim.Native.Char.{code}
 use Prim.Native.String.{String, [] as end, _∷_ as _then_}
@@ -35,3 +36,10 @@ infoBytes head = requestLabel ++ head
 unfoldable pub exporterContext : List ℕ
 unfolding ascii
 exporterContext = ascii "message/bhttp response"
+
+-- the most bytes of a request, and of a plain response
+abbrev pub longestRequest : ℕ
+longestRequest = 65536
+
+abbrev pub longestPlain : ℕ
+longestPlain = 65536

@@ -1,7 +1,8 @@
 // Reads and writes at an offset. Each has an answer for every offset: 0 past the end, and no write there.
 ghost use mathlib.Core.Path.{_≡_};
 ghost use Prim.Native.Nat.{min};
-ghost use Rattle.wire.specs.Bytes.{byteAt, wordAt, overwritten};
+ghost use Rattle.wire.specs.Bytes.{byteAt, wordAt};
+ghost use Rattle.wire.specs.Helpers.{overwritten};
 
 // The byte at an offset, 0 past the end.
 pub fn byte_at(bytes: &[u8], at: usize) -> u8

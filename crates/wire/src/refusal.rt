@@ -1,6 +1,7 @@
 // 01's refusals.
 ghost use mathlib.Core.Path.{_≡_};
-ghost use Rattle.wire.specs.Refusals.{refused, badList, hasPlace};
+ghost use Rattle.wire.specs.Refusals.{refused, badList};
+ghost use Rattle.wire.specs.Helpers.{hasPlace};
 
 // A refusal: its number and, for 15, its place; the place is 0 for every other number.
 pub struct Refusal {

@@ -2,7 +2,7 @@
 -- Assumes nothing.
 use Rattle.listwriter.proofs.Writing.{answer-refused, answer-no-room, answer-room}
 use Rattle.listwriter.specs.Writer.{fields, encode, lengthWritten}
-use Rattle.keylist.specs.Layout.{Outcome}
+use Rattle.keylist.specs.Layout.{Result}
 use Rattle.listwriter.specs.declared.Written.{Written}
 use mathlib.Core.Path.{_≡_}
 use mathlib.Core.List.{List}
@@ -13,7 +13,7 @@ use borrow.Author.Needs.{needs}
 use Rattle.listwriter.proofs.write.Statement.{statement}
 use Rattle.listwriter.proofs.write.Tie as tie
 
-abbrev outcome : tie.Start → Outcome (List ℕ)
+abbrev outcome : tie.Start → Result (List ℕ)
 outcome s = let a = s .args in encode (a .ids .now) (fields (a .kems .now) (a .key-lengths .now) (a .keys .now) (a .pair-counts .now) (a .pairs .now))
 
 -- the length that the first walk answered

@@ -1,7 +1,7 @@
 -- `listwriter::write_all` meets its contract. The loop's invariant is `Writing`: the list up to the offset stands at the buffer's front.
 -- The measure is how many key ids are left.
 -- Assumes nothing.
-use Rattle.wire.specs.Bytes.{overwritten}
+use Rattle.wire.specs.Helpers.{overwritten}
 use lib.ListN.{length-take, length-drop, length, getD}
 use Rattle.listwriter.proofs.Writing.{Writing, writing-start, writing-more, writing-end, writing-bounds, writing-room, writing-limit, buffer-length, as-written}
 use Rattle.listwriter.specs.Writer.{fields}

@@ -4,9 +4,8 @@ use mathlib.Core.Path.{sym, _∙_}
 use Prim.Native.Nat.{_+_, _≤_}
 use native.Mathlib.Omega.{arith}
 use lib.ListN.{length}
-use Rattle.wire.specs.Texts.{headLength}
+use Rattle.wire.specs.Texts.{headLength, longestRequest}
 use Rattle.wire.proofs.Numbers.{unless-refused}
-use Rattle.request.specs.Request.{longestRequest}
 use Rattle.request.proofs.Requests.{accepted-request}
 use borrow.Author.Needs.{needs}
 use Rattle.request.proofs.read.Statement.{statement}

@@ -7,7 +7,7 @@ use lib.ListN.{length}
 use Rattle.wire.specs.Refusals.{_when_otherwise_}
 use Rattle.algorithms.specs.Sizes.{knownKem, shortestRequest}
 use Rattle.algorithms.proofs.Answers.{known, unknown}
-use Rattle.request.specs.Request.{requestRefusal}
+use Rattle.request.specs.Helpers.{requestRefusal}
 use borrow.Author.Needs.{needs}
 use Rattle.request.proofs.refusal.Statement.{statement}
 use Rattle.request.proofs.refusal.Tie as tie

@@ -4,7 +4,7 @@ use mathlib.Core.Path.{sym, _∙_}
 use borrow.Author.Tests.{ne-eqb}
 use borrow.Author.Needs.{needs}
 use Rattle.keylist.specs.Layout.{parse}
-use Rattle.keylist.specs.Answers.{IsGood}
+use Rattle.keylist.specs.Helpers.{IsGood}
 use Rattle.keylist.proofs.Walk.{checked-good, checked-bad}
 use Rattle.client.proofs.choose.choose.Statement.{statement}
 use Rattle.client.proofs.choose.choose.Tie as tie

@@ -7,10 +7,10 @@ use borrow.Author.Tests.{not-true, not-false}
 use borrow.Author.Needs.{needs}
 use Rattle.wire.specs.Search.{among}
 use Rattle.keylist.specs.Layout.{kemAt}
-use Rattle.keylist.specs.Answers.{placeOf}
+use Rattle.keylist.specs.Helpers.{placeOf}
 use Rattle.keylist.proofs.LayoutLaws.{Holds}
 use Rattle.keylist.proofs.Keys.{good-place}
-use Rattle.client.specs.Choose.{pairFound}
+use Rattle.client.specs.Helpers.{pairFound}
 use Rattle.client.proofs.Choosing.{pairsHere, other-kem, no-pair, chosen-here}
 use Rattle.client.proofs.choose.choose_at.Statement.{statement}
 use Rattle.client.proofs.choose.choose_at.Tie as tie

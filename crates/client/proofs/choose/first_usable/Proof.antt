@@ -9,7 +9,7 @@ use lib.ListN.{length}
 use Rattle.wire.specs.Tests.{pick}
 use Rattle.keylist.specs.Layout.{pairsAt}
 use Rattle.client.specs.declared.choose.PairFound.{PairFound}
-use Rattle.client.specs.Choose.{pairFound}
+use Rattle.client.specs.Helpers.{pairFound}
 use Rattle.client.proofs.Pairs.{found-step, found-end}
 use Rattle.client.proofs.choose.first_usable.Statement.{statement}
 use Rattle.client.proofs.choose.first_usable.Tie as tie

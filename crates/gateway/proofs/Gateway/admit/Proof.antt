@@ -5,7 +5,7 @@ use Prim.Native.Nat.{ℕ, _<_}
 use native.Mathlib.Omega.{arith}
 use borrow.Author.Needs.{needs}
 use mathlib.Core.List.{List}
-use Rattle.wire.specs.Bytes.{overwritten}
+use Rattle.wire.specs.Helpers.{overwritten}
 use Rattle.gateway.proofs.Lengths.{full-keys}
 use Rattle.gateway.proofs.Results.{Decided, not-admitted, is-admitted, key-below, place-below, info-fits, head-there, info-written}
 use Rattle.gateway.proofs.Gateway.admit.Statement.{statement}

@@ -3,7 +3,7 @@
 use mathlib.Core.Path.{ap, _∙_}
 use borrow.Author.Needs.{needs}
 use Rattle.exchange.specs.Steps.{step, buffer}
-use Rattle.gateway.specs.Calls.{gatewayDoes}
+use Rattle.gateway.specs.Gateway.{gatewayDoes}
 use Rattle.gateway.proofs.Lengths.{full-table}
 use Rattle.gateway.proofs.Results.{stepped-by}
 use Rattle.gateway.proofs.Gateway.step_with.Statement.{statement}

@@ -1,8 +1,8 @@
 -- `gateway::change::exchange_at` meets its contract.
 -- Assumes nothing.
 use borrow.Author.Tests.{le-leb, lt-leb}
-use Rattle.gateway.specs.Gateway.{tableSize}
-use Rattle.gateway.specs.Change.{exchangeAt}
+use Rattle.gateway.specs.Registry.{tableSize}
+use Rattle.gateway.specs.Helpers.{exchangeAt}
 use Rattle.gateway.proofs.change.exchange_at.Statement.{statement}
 use Rattle.gateway.proofs.change.exchange_at.Tie as tie
 

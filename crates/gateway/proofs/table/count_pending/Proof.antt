@@ -6,7 +6,8 @@ use native.Mathlib.Omega.{arith}
 use native.Mathlib.Nat.{zero-add}
 use borrow.Author.Needs.{needs}
 use lib.ListN.{length, getD, drop, drop-of-length-le}
-use Rattle.gateway.specs.Gateway.{tableSize, pendingIn}
+use Rattle.gateway.specs.View.{pendingIn}
+use Rattle.gateway.specs.Registry.{tableSize}
 use mathlib.Core.List.{[], _∷_}
 use native.Mathlib.Numerals.{add-one}
 use lib.Seq.{drop-cons}

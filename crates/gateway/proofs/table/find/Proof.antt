@@ -7,7 +7,7 @@ use borrow.Author.Needs.{needs}
 use lib.ListN.{length, getD}
 use mathlib.Core.Bool.{false}
 use Rattle.exchange.specs.Exchange.{free, hasTicket}
-use Rattle.gateway.specs.Gateway.{tableSize}
+use Rattle.gateway.specs.Registry.{tableSize}
 use borrow.Author.Count.{below-none, below-more}
 use Rattle.gateway.proofs.Places.{no-ticket, other-ticket, own-ticket, found-at, found-none}
 use Rattle.gateway.proofs.table.find.Statement.{statement}

@@ -7,7 +7,8 @@ use borrow.Author.Needs.{needs}
 use lib.ListN.{length, getD}
 use mathlib.Core.Bool.{false}
 use Rattle.exchange.specs.Exchange.{free, isFree}
-use Rattle.gateway.specs.Gateway.{tableSize, freePlace}
+use Rattle.gateway.specs.Gateway.{freePlace}
+use Rattle.gateway.specs.Registry.{tableSize}
 use Rattle.wire.proofs.Matches.{first-at, first-none}
 use borrow.Author.Count.{below-none, below-more}
 use Rattle.gateway.proofs.table.free_place.Statement.{statement}

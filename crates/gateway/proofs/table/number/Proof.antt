@@ -1,10 +1,9 @@
 -- `gateway::table::number` meets its contract.
 -- Assumes nothing.
 use mathlib.Core.Path.{refl}
-use Prim.Native.Nat.{_-_}
 use native.Mathlib.Omega.{arith}
 use borrow.Author.Needs.{needs}
-use Rattle.gateway.specs.Gateway.{pendingIn}
+use Rattle.gateway.specs.View.{pendingIn}
 use Rattle.gateway.proofs.table.number.Statement.{statement}
 use Rattle.gateway.proofs.table.number.Tie as tie
 

@@ -4,7 +4,8 @@
 use Rattle.keylist.proofs.Keys.{place-inside, found-here, found-later}
 use Rattle.keylist.proofs.Walk.{GoodFrom, walk-start, walk-next, walk-end}
 use Rattle.keylist.specs.declared.Place.{Place}
-use Rattle.keylist.specs.Answers.{keyPlaceIn, firstWithId, placeOf}
+use Rattle.keylist.specs.Answers.{keyPlaceIn, firstWithId}
+use Rattle.keylist.specs.Helpers.{placeOf}
 use Rattle.keylist.specs.Layout.{parse}
 use mathlib.Core.Path.{_≡_, sym, ap, _∙_}
 use Prim.Native.Nat.{_-_, _≤_}

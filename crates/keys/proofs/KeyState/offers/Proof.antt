@@ -10,8 +10,9 @@ use borrow.Author.Tests.{not-true, not-false}
 use lib.ListN.{getD}
 use Rattle.algorithms.specs.Sizes.{knownPair}
 use Rattle.wire.proofs.Booleans.{and-false}
-use Rattle.keys.specs.Keys.{isPair, offers}
-use Rattle.keys.specs.Stored.{noPair, keyOf}
+use Rattle.keys.specs.Keys.{offers, keyOf}
+use Rattle.keylist.specs.Layout.{isPair}
+use Rattle.keys.specs.Stored.{noPair}
 use Rattle.keys.proofs.Arrays.{stored-any, stored-any-none}
 use Rattle.keys.proofs.Stored.{full-pairs}
 use Rattle.keys.proofs.KeyState.offers.Statement.{statement}

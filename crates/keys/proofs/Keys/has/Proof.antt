@@ -5,7 +5,7 @@ use native.Mathlib.Omega.{arith}
 use borrow.Author.Needs.{needs}
 use borrow.Author.Tests.{le-ltb}
 use lib.ListN.{length}
-use Rattle.keys.specs.Stored.{keysOf}
+use Rattle.keys.specs.Keys.{keysOf}
 use Rattle.keys.proofs.Stored.{full, length-keys, below-most}
 use Rattle.keys.proofs.Keys.has.Statement.{statement}
 use Rattle.keys.proofs.Keys.has.Tie as tie

@@ -4,7 +4,7 @@ use mathlib.Core.Path.{sym, _∙_}
 use borrow.Author.Needs.{needs}
 use Rattle.keylist.specs.Layout.{parse}
 use Rattle.keylist.proofs.Walk.{checked-good, checked-bad}
-use Rattle.keys.specs.Stored.{keysFrom}
+use Rattle.keys.specs.Helpers.{keysFrom}
 use Rattle.keys.proofs.Keys.read.Statement.{statement}
 use Rattle.keys.proofs.Keys.read.Tie as tie
 

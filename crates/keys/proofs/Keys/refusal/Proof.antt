@@ -9,8 +9,8 @@ use lib.Dec.{leb}
 use lib.ListN.{length, getD}
 use Rattle.wire.specs.Refusals.{_when_otherwise_}
 use Rattle.keys.specs.declared.KeyState.{KeyState}
-use Rattle.keys.specs.Keys.{keyRefusal}
-use Rattle.keys.specs.Stored.{keyOf, keysOf}
+use Rattle.keys.specs.Helpers.{keyRefusal}
+use Rattle.keys.specs.Keys.{keyOf, keysOf}
 use Rattle.keys.proofs.Stored.{unread, full, length-keys, keyTests, refusal-out, refusal-there}
 use Rattle.keys.proofs.Keys.refusal.Statement.{statement}
 use Rattle.keys.proofs.Keys.refusal.Tie as tie

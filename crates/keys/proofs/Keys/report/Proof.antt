@@ -4,7 +4,7 @@ use mathlib.Core.Path.{_≡_, refl, _∙_}
 use Prim.Native.Nat.{_-_, _≤_, min}
 use native.Mathlib.Omega.{arith}
 use borrow.Author.Needs.{needs}
-use Rattle.keys.specs.Stored.{keysOf, storedReports}
+use Rattle.keys.specs.Keys.{storedReports, keysOf}
 use Rattle.keys.proofs.Stored.{full, reportsOf, reports-more, reports-all}
 use Rattle.keys.proofs.Keys.report.Statement.{statement}
 use Rattle.keys.proofs.Keys.report.Tie as tie

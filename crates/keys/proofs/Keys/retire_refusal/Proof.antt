@@ -6,14 +6,14 @@ use native.Mathlib.Omega.{arith}
 use borrow.Author.Needs.{needs}
 use borrow.Author.Tests.{le-leb, lt-leb, ne-eqb, eq-eqb, ltb-true, ltb-false, not-true, not-false}
 use lib.ListN.{length, getD}
-use Rattle.keys.specs.Keys.{keyAt, retireRefusal}
-use Rattle.keys.specs.Stored.{keyOf, keysOf}
+use Rattle.keys.specs.Helpers.{keyAt, retireRefusalAt}
+use Rattle.keys.specs.Keys.{keyOf, keysOf}
 use Rattle.keys.proofs.Stored.{unread, full, length-keys, key-at}
 use Rattle.keys.proofs.Keys.retire_refusal.Statement.{statement}
 use Rattle.keys.proofs.Keys.retire_refusal.Tie as tie
 
 returns : tie.Need-returns
-unfolding retireRefusal
+unfolding retireRefusalAt
 returns c =
     let a = c .before .before .args in
     let out : length (keysOf (a .t1)) ≤ a .place = ltb-false _ _ (sym (c .before .has .ensures) ∙ not-true _ (c .if1 .taken)) in
@@ -31,11 +31,11 @@ inside c =
     (there, omega (arith, length-keys (a .t1) whole), key-at (a .t1) whole (a .place) there)
 
 returns-2 : tie.Need-returns-2
-unfolding retireRefusal
+unfolding retireRefusalAt
 returns-2 c = let key = inside (c .before) in rw (lt-leb _ _ (key .0), key .2, ne-eqb _ 0 (c .if2 .taken))
 
 returns-3 : tie.Need-returns-3
-unfolding retireRefusal
+unfolding retireRefusalAt
 returns-3 c = let key = inside (c .before) in rw (lt-leb _ _ (key .0), key .2, eq-eqb _ 0 (c .if2 .left))
 
 pub retire-refusal-spec : {M : Type 1} → statement M

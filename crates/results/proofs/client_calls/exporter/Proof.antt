@@ -5,7 +5,7 @@ use mathlib.Core.Bool.{true}
 use mathlib.Core.List.{List}
 use Prim.Native.Nat.{ℕ, _≤_}
 use lib.ListN.{length}
-use Rattle.wire.specs.Bytes.{overwritten}
+use Rattle.wire.specs.Helpers.{overwritten}
 use Rattle.wire.specs.Texts.{ascii, exporterContext}
 use Rattle.wire.proofs.Numbers.{unless-refused}
 use Rattle.wire.proofs.Writes.{front-first}

@@ -1,7 +1,7 @@
 -- `results::gateway_calls::retire` meets its contract.
 -- Assumes nothing.
 use mathlib.Core.Path.{refl, ap, _∙_}
-use Rattle.gateway.specs.Calls.{gatewayDoes}
+use Rattle.gateway.specs.Gateway.{gatewayDoes}
 use Rattle.results.specs.Calls.{outcomeOf}
 use borrow.Author.Needs.{needs}
 use Rattle.results.proofs.gateway_calls.retire.Statement.{statement}

@@ -1,7 +1,7 @@
 -- `sealwax::gateway_lines::admit` meets its contract: what it puts into the gateway is what the call changes, with the buffer that was lent.
 -- Assumes nothing.
 use mathlib.Core.Path.{_∙_}
-use Rattle.sealwax.proofs.Lending.{part-lent}
+use Rattle.sealwax.proofs.Lending.{part-filled}
 use borrow.Author.Needs.{needs}
 use Rattle.sealwax.proofs.gateway_lines.admit.Statement.{statement}
 use Rattle.sealwax.proofs.gateway_lines.admit.Tie as tie
@@ -11,7 +11,7 @@ returns c =
     let done = c .before .before .before in
     let called = done .before .before .before .before .before in
     let asked = called .before .before in
-    rw (← part-lent (asked .before .before .args .room) (asked .room-of .result) (asked .room-of .ensures))
+    rw (← part-filled (asked .before .before .args .room) (asked .room-of .result) (asked .room-of .ensures))
     (done .put .ensures ∙ called .admit .ensures .1 .0)
 
 pub admit-spec : {M : Type 1} → statement M

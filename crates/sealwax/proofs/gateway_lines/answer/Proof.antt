@@ -2,7 +2,7 @@
 -- Assumes nothing.
 use mathlib.Core.Path.{refl}
 use borrow.Author.Needs.{needs}
-use Rattle.gateway.specs.Calls.{gatewayDoes}
+use Rattle.gateway.specs.Gateway.{gatewayDoes}
 use Rattle.sealwax.proofs.gateway_lines.answer.Statement.{statement}
 use Rattle.sealwax.proofs.gateway_lines.answer.Tie as tie
 

@@ -1,7 +1,7 @@
 -- `sealwax::gateway_lines::step` meets its contract: what it puts into the gateway is what the call changes, with the buffer that was lent.
 -- Assumes nothing.
 use mathlib.Core.Path.{_∙_}
-use Rattle.sealwax.proofs.Lending.{part-lent}
+use Rattle.sealwax.proofs.Lending.{part-filled}
 use borrow.Author.Needs.{needs}
 use Rattle.sealwax.proofs.gateway_lines.step.Statement.{statement}
 use Rattle.sealwax.proofs.gateway_lines.step.Tie as tie
@@ -10,7 +10,7 @@ returns : tie.Need-returns
 returns c =
     let called = c .before .before .before .before .before .before in
     let asked = called .before .before in
-    rw (← part-lent (asked .before .before .before .args .room) (asked .room-of .result) (asked .room-of .ensures))
+    rw (← part-filled (asked .before .before .before .args .room) (asked .room-of .result) (asked .room-of .ensures))
     (c .put .ensures ∙ called .step .ensures .1 .0)
 
 pub step-spec : {M : Type 1} → statement M

@@ -1,0 +1,53 @@
+-- A key by its id, and by its place, where the code has it: the refusals that it decides, and the keys with it changed.
+-- Assumes nothing.
+use mathlib.Core.Path.{_≡_, refl, ap}
+use mathlib.Core.Bool.{not}
+use mathlib.Core.List.{List, [], _∷_}
+use mathlib.Core.Option.{Option}
+use Prim.Native.Nat.{ℕ}
+use borrow.Author.Tests.{leb-true, leb-false}
+use lib.Dec.{eqb, leb}
+use lib.ListN.{length, set}
+use Rattle.wire.specs.Search.{firstPlace, isNone, isSomeThat}
+use Rattle.wire.specs.Refusals.{_when_otherwise_}
+use Rattle.wire.proofs.Booleans.{either}
+use Rattle.wire.proofs.Matches.{that-inside, that-outside}
+use Rattle.request.specs.declared.Request.{Request}
+use Rattle.keys.specs.Keys.{Key, hasId, keyWith, offers, retireRefusal, withKey}
+use Rattle.keys.specs.Helpers.{noKey, placeOfKey, keyAt, keyRefusal, retireRefusalAt}
+
+-- the keys with the one at a place changed
+abbrev pub changedAt : (Key → Key) → ℕ → List Key → List Key
+changedAt change place keys = set keys place (change (keyAt keys place))
+
+pub with-key : (change : Key → Key) (id : ℕ) (keys : List Key) → withKey change id keys ≡ changedAt change (placeOfKey id keys) keys
+unfolding withKey firstPlace
+with-key change id [] = refl
+with-key change id (key ∷ keys) =
+    either (hasId id key) (λ e. rw e) (λ e. rw e (ap (λ (more : List Key). key ∷ more) (with-key change id keys)))
+
+-- admit's 4, 5, 6, 7, 8 of a key, or of none
+abbrev pub namedTests : ℕ → Option Key → ℕ → ℕ → ℕ → ℕ → ℕ
+namedTests cap key kem kdf aead rest =
+    4 when isNone key otherwise
+    5 when not (isSomeThat (λ k. eqb (k .kem) kem) key) otherwise
+    6 when not (isSomeThat (offers kdf aead) key) otherwise
+    7 when isSomeThat (λ k. k .retired) key otherwise
+    8 when isSomeThat (λ k. leb cap (k .count)) key otherwise
+    rest
+
+module _ (id : ℕ) (keys : List Key) where
+  pub key-order : (cap : ℕ) (request : Request)
+      → keyRefusal cap keys (placeOfKey id keys) request ≡ namedTests cap (keyWith id keys) (request .kem) (request .kdf) (request .aead) 0
+  unfolding keyRefusal
+  key-order cap request =
+      either (leb (length keys) (placeOfKey id keys))
+      (λ out. rw (out, that-outside noKey (hasId id) keys (leb-true _ _ out)))
+      (λ inside. rw (inside, that-inside noKey (hasId id) keys (leb-false _ _ inside)))
+
+  pub retire-order : retireRefusalAt keys (placeOfKey id keys) ≡ retireRefusal (keyWith id keys)
+  unfolding retireRefusalAt retireRefusal
+  retire-order =
+      either (leb (length keys) (placeOfKey id keys))
+      (λ out. rw (out, that-outside noKey (hasId id) keys (leb-true _ _ out)))
+      (λ inside. rw (inside, that-inside noKey (hasId id) keys (leb-false _ _ inside)))

@@ -1,0 +1,52 @@
+-- What only the contracts of helper functions cite: a reader of the rules can skip this file.
+use Prim.Native.Nat.{ℕ}
+use mathlib.Core.Bool.{false, not}
+use mathlib.Core.List.{List, []}
+use lib.Dec.{eqb, leb}
+use lib.ListN.{length, getD}
+use Rattle.wire.specs.Search.{firstPlace}
+use Rattle.wire.specs.Refusals.{_when_otherwise_}
+use Rattle.keylist.specs.Layout.{Configuration, Result, good, bad}
+use Rattle.keylist.specs.Answers.{checked}
+use Rattle.request.specs.declared.Request.{Request}
+use Rattle.keys.specs.declared.Keys.{Keys}
+use Rattle.keys.specs.declared.KeysRead.{KeysRead}
+use Rattle.keys.specs.Keys.{Key, hasId, offers}
+use Rattle.keys.specs.Stored.{storedKeys}
+
+-- the place of the key with the id, the number of keys where none has it
+abbrev pub placeOfKey : ℕ → List Key → ℕ
+placeOfKey id keys = firstPlace (hasId id) keys
+
+-- the key at a place, and what stands for it where there is none
+abbrev pub noKey : Key
+noKey = record { id = 0; kem = 0; pairs = []; count = 0; retired = false }
+
+abbrev pub keyAt : List Key → ℕ → Key
+keyAt keys place = getD keys place noKey
+
+-- admit's 4, 5, 6, 7, 8 of the key at a place; 0: no refusal
+unfoldable pub keyRefusal : ℕ → List Key → ℕ → Request → ℕ
+keyRefusal cap keys place request =
+    4 when leb (length keys) place otherwise
+    5 when not (eqb (keyAt keys place .kem) (request .kem)) otherwise
+    6 when not (offers (request .kdf) (request .aead) (keyAt keys place)) otherwise
+    7 when keyAt keys place .retired otherwise
+    8 when leb cap (keyAt keys place .count) otherwise
+    0
+
+-- retire's 4, 7 of the key at a place
+unfoldable pub retireRefusalAt : List Key → ℕ → ℕ
+retireRefusalAt keys place =
+    4 when leb (length keys) place otherwise
+    7 when keyAt keys place .retired otherwise
+    0
+
+-- the keys of a list; none where it is refused
+unfoldable pub keysFrom : Result (List Configuration) → Keys
+unfolding storedKeys
+keysFrom (good cs) = storedKeys cs
+keysFrom (bad r) = storedKeys []
+
+abbrev pub keysRead : Result (List Configuration) → KeysRead
+keysRead outcome = record { keys = keysFrom outcome; checked = checked outcome }
