@@ -2,7 +2,7 @@
 -- Assumes nothing.
 use mathlib.Core.Path.{_≡_, refl, sym, ap, subst, _∙_}
 use mathlib.Core.Bool.{Bool, true, false, not}
-use mathlib.Core.List.{List, [], _∷_, _++_}
+use mathlib.Core.List.{List, [], _∷_, _++_, append-assoc}
 use Prim.Native.Nat.{ℕ, zero, suc, _+_, _-_, _*_, _≤_, _<_}
 use mathlib.Core.Logic.{⊎-elim}
 use native.Mathlib.Nat.{add-zero, eq-or-lt-of-le}
@@ -20,13 +20,14 @@ use Rattle.wire.specs.Search.{among}
 use Rattle.wire.specs.Refusals.{badList}
 use Rattle.wire.proofs.Booleans.{either, and-left}
 use Rattle.wire.proofs.Writes.{front-more}
-use Rattle.wire.proofs.Words.{words-length}
 use Rattle.algorithms.proofs.Stated.{size-bounds}
 use Rattle.listwriter.specs.declared.Written.{Written}
 use Rattle.keylist.specs.Layout.{good, bad, mostConfigurations, Result}
-use Rattle.listwriter.specs.Writer.{Fields, fieldsFrom, fieldsHold, firstHolds, firstKem, firstKeyLength, firstPairCount, firstPairs, behindFirst, noneLeft, lengthOf, firstLength, firstBytes, inFrontOf, encodeFrom, encode, lengthWritten}
+use Rattle.listwriter.specs.Writer.{Fields, fieldsHold, noneLeft, encode}
+use Rattle.listwriter.specs.Helpers.{fieldsFrom, firstHolds, lengthWritten}
 use Rattle.keylist.proofs.Parsing.{no-refusal}
-use Rattle.listwriter.proofs.OneConfiguration.{first-says, same-fields}
+use Rattle.listwriter.proofs.FlatFields.{firstKem, firstKeyLength, firstPairCount, behindFirst, lengthOf, firstLength, firstBytes, inFrontOf, encodeFrom, walk, first-says, first-size, same-fields, none-of}
+use Rattle.listwriter.proofs.Cutting.{encode-is-walk}
 
 -- whether anything is left from a place on
 left-test : (n : ℕ) (xs : List ℕ) → eqb (length (drop n xs)) 0 ≡ leb (length xs) n
@@ -41,7 +42,7 @@ leftTests f i k p =
     leb (length (f .kems)) i and leb (length (f .keyLengths)) i and leb (length (f .keys)) k and leb (length (f .pairCounts)) i and leb (length (f .pairs)) p
 
 pub left-tests : (f : Fields) (i k p : ℕ) → noneLeft (fieldsFrom f i k p) ≡ leftTests f i k p
-left-tests f i k p = simp left-test
+left-tests f i k p = simp (append-assoc, none-of, left-test)
 
 -- the first number from an index on
 number-from : (xs : List ℕ) (i : ℕ) → getD (drop i xs) 0 0 ≡ getD xs i 0
@@ -70,13 +71,6 @@ module _ (f : Fields) (i k p : ℕ) where
       (drop-drop 1 i (f .pairCounts))
       (rw pair-count-from (drop-drop (getD (f .pairCounts) i 0) p (f .pairs)))
 
--- a configuration that holds is as long as its length says
-pub first-size : (id : ℕ) (f : Fields) → firstHolds f ≡ true → length (firstBytes id f) ≡ 2 + firstLength f
-first-size id f h =
-    let (_, (_, (key, (_, pairs)))) = first-says f h in
-    let words = words-length (firstPairs f) in
-    simp (length-append, words-length) (omega arith)
-
 -- the bounds of a configuration that holds
 pub first-bounds : (f : Fields) → firstHolds f ≡ true → (firstKeyLength f ≤ 133) × ((firstPairCount f ≤ 32) × ((firstKeyLength f ≤ length (f .keys)) × (firstPairCount f ≤ length (f .pairs))))
 first-bounds f h =
@@ -87,9 +81,9 @@ first-bounds f h =
 
 -- how encoding goes on
 pub encode-some : (ids : List ℕ) (f : Fields) → 0 < length ids → encode ids f ≡ encodeFrom mostConfigurations [] 0 ids f
-unfolding encode
+unfolding walk
 encode-some [] f h = absurd (omega arith)
-encode-some (id ∷ ids) f h = refl
+encode-some (id ∷ ids) f h = encode-is-walk (id ∷ ids) f
 
 pub encode-none : (ids : List ℕ) (f : Fields) → length ids ≡ 0 → encode ids f ≡ bad (badList 0)
 unfolding encode

@@ -1,6 +1,7 @@
 -- Laws that belong to no one function.
-pub mod Offsets
-pub mod OneConfiguration
-pub mod RoundTrip
+pub mod FlatFields
+pub mod Cutting
+pub mod ReadAfterWrite
+pub mod WriteAfterRead
 pub mod FieldsWalk
 pub mod Writing

@@ -14,10 +14,12 @@ use Rattle.wire.specs.Search.{among}
 use Rattle.wire.proofs.Booleans.{and-left}
 use Rattle.wire.proofs.Writes.{front-length}
 use Rattle.keylist.specs.Layout.{good, bad, mostConfigurations, Result}
-use Rattle.listwriter.specs.Writer.{Fields, fieldsFrom, firstHolds, firstBytes, lengthOf, configurationBytes, encode, lengthWritten, writtenIn, writtenTo, Fitting}
+use Rattle.listwriter.specs.Writer.{Fields, configurationBytes, encode, writtenIn, writtenTo}
+use Rattle.listwriter.specs.Helpers.{fieldsFrom, firstHolds, lengthWritten, Fitting}
 use Rattle.listwriter.specs.declared.Written.{Written}
 use Rattle.wire.specs.declared.refusal.Refusal.{Refusal}
 use Rattle.wire.specs.Refusals.{refused}
+use Rattle.listwriter.proofs.FlatFields.{firstBytes, lengthOf}
 use Rattle.listwriter.proofs.FieldsWalk.{Within, within-start, within-next, bounds-from, kem-from, key-length-from, pair-count-from, encodeAt, MoreGood, more-good, end-good, at-size, written-more, encode-some, some-ids}
 
 pub record Writing (ids : List ℕ) (f : Fields) (start buffer : List ℕ) (i at k p : ℕ) : Type 0 where

@@ -1,10 +1,9 @@
--- 01, "List writer": configurations given as fields, written by the layout or refused. The fields are lists: key ids, KEMs,
--- public key lengths, the key bytes of all, how many pair numbers each has, and the pair numbers of all, KDF and AEAD by turns.
-use Prim.Native.Nat.{ℕ, zero, suc, _+_, _*_, _≤_}
-use mathlib.Core.Path.{_≡_}
+-- 01, "List writer": the fields are cut into configurations, and each is written by the layout or refused. The fields are lists: key ids,
+-- KEMs, public key lengths, the key bytes of all, how many pair numbers each has, and the pair numbers of all, KDF and AEAD by turns.
+use Prim.Native.Nat.{ℕ, _+_, _*_}
 use mathlib.Core.Bool.{Bool, not}
 use mathlib.Core.List.{List, [], _∷_, _++_}
-use lib.Dec.{eqb, leb}
+use lib.Dec.{eqb, leb, ltb}
 use lib.ListN.{length, getD, take, drop}
 use Rattle.wire.specs.Tests.{pick, _and_}
 use Rattle.wire.specs.Bytes.{wordBytes, wordsBytes, withFront}
@@ -26,105 +25,60 @@ abbrev pub fields : List ℕ → List ℕ → List ℕ → List ℕ → List ℕ
 fields kems keyLengths keys pairCounts pairs =
     record { kems = kems; keyLengths = keyLengths; keys = keys; pairCounts = pairCounts; pairs = pairs }
 
--- the first configuration's KEM, announced lengths and what there is of its key and pairs; a missing number counts as 0
-abbrev pub firstKem : Fields → ℕ
-firstKem f = getD (f .kems) 0 0
+-- a configuration as it is given, with the lengths announced and what there is of its key and its pair numbers; or fields left over
+pub data Given : Type 0 where
+  configuration : (keyId kem keyLength : ℕ) (key : List ℕ) (pairCount : ℕ) (pairs : List ℕ) → Given
+  leftOver : Given
 
-abbrev pub firstKeyLength : Fields → ℕ
-firstKeyLength f = getD (f .keyLengths) 0 0
+-- the first number; a missing one counts as 0
+abbrev pub first : List ℕ → ℕ
+first numbers = getD numbers 0 0
 
-abbrev pub firstKey : Fields → List ℕ
-firstKey f = take (firstKeyLength f) (f .keys)
-
-abbrev pub firstPairCount : Fields → ℕ
-firstPairCount f = getD (f .pairCounts) 0 0
-
-abbrev pub firstPairs : Fields → List ℕ
-firstPairs f = take (firstPairCount f) (f .pairs)
-
--- the fields behind those of the first configuration
-abbrev pub behindFirst : Fields → Fields
-behindFirst f =
-    record {
-      kems = drop 1 (f .kems);
-      keyLengths = drop 1 (f .keyLengths);
-      keys = drop (firstKeyLength f) (f .keys);
-      pairCounts = drop 1 (f .pairCounts);
-      pairs = drop (firstPairCount f) (f .pairs);
-    }
-
--- the fields from the configuration of an index on, whose key bytes and pair numbers start at these places
-abbrev pub fieldsFrom : Fields → ℕ → ℕ → ℕ → Fields
-fieldsFrom f index keyAt pairAt =
-    record {
-      kems = drop index (f .kems);
-      keyLengths = drop index (f .keyLengths);
-      keys = drop keyAt (f .keys);
-      pairCounts = drop index (f .pairCounts);
-      pairs = drop pairAt (f .pairs);
-    }
-
--- nothing is left over
+-- no field is left
 abbrev pub noneLeft : Fields → Bool
-noneLeft f =
-    eqb (length (f .kems)) 0
-    and eqb (length (f .keyLengths)) 0
-    and eqb (length (f .keys)) 0
-    and eqb (length (f .pairCounts)) 0
-    and eqb (length (f .pairs)) 0
+noneLeft f = eqb (length (f .kems ++ f .keyLengths ++ f .keys ++ f .pairCounts ++ f .pairs)) 0
 
--- the layout's rules for one configuration: KEM, key length announced and key bytes left, pair numbers announced and left
+-- the fields cut into configurations, one for each key id; what is left over behind them counts as one more
+unfoldable pub cut : List ℕ → Fields → List Given
+cut [] f = pick (noneLeft f) [] (leftOver ∷ [])
+cut (id ∷ ids) f =
+    let keyLength = first (f .keyLengths) in
+    let pairCount = first (f .pairCounts) in
+    configuration id (first (f .kems)) keyLength (take keyLength (f .keys)) pairCount (take pairCount (f .pairs))
+    ∷ cut ids
+    (fields (drop 1 (f .kems)) (drop 1 (f .keyLengths)) (drop keyLength (f .keys)) (drop 1 (f .pairCounts)) (drop pairCount (f .pairs)))
+
+-- the layout's rules for one configuration: its KEM, the key bytes announced and there, the pair numbers announced and there
 abbrev pub fieldsHold : ℕ → ℕ → ℕ → ℕ → ℕ → Bool
-fieldsHold kem keyLength keysLeft pairCount pairsLeft =
+fieldsHold kem keyLength keysThere pairCount pairsThere =
     knownKem kem
     and eqb keyLength (publicKeyLength kem)
-    and leb keyLength keysLeft
+    and leb keyLength keysThere
     and pairBytesHold (pairCount * 2)
-    and leb pairCount pairsLeft
+    and leb pairCount pairsThere
 
-unfoldable pub firstHolds : Fields → Bool
-firstHolds f = fieldsHold (firstKem f) (firstKeyLength f) (length (f .keys)) (firstPairCount f) (length (f .pairs))
-
--- L
-abbrev pub lengthOf : ℕ → ℕ → ℕ
-lengthOf keyLength pairCount = 5 + keyLength + pairCount * 2
-
--- the bytes of one configuration
+-- the bytes of one configuration: L, key id, KEM, public key, S, pairs
 abbrev pub configurationBytes : ℕ → ℕ → ℕ → List ℕ → ℕ → List ℕ → List ℕ
 configurationBytes keyId kem keyLength key pairCount pairs =
-    wordBytes (lengthOf keyLength pairCount) ++ keyId ∷ wordBytes kem ++ key
+    wordBytes (5 + keyLength + pairCount * 2) ++ keyId ∷ wordBytes kem ++ key
     ++ wordBytes (pairCount * 2) ++ wordsBytes pairs
 
-abbrev pub firstLength : Fields → ℕ
-firstLength f = lengthOf (firstKeyLength f) (firstPairCount f)
-
-abbrev pub firstBytes : ℕ → Fields → List ℕ
-firstBytes keyId f =
-    configurationBytes keyId (firstKem f) (firstKeyLength f) (firstKey f) (firstPairCount f) (firstPairs f)
-
--- bytes in front of those that follow
-abbrev pub inFrontOf : List ℕ → Result (List ℕ) → Result (List ℕ)
-inFrontOf bytes (good more) = good (bytes ++ more)
-inFrontOf bytes (bad r) = bad r
-
--- the bytes of the configurations from an offset on, where so many more may come and these key ids are taken
-unfoldable pub encodeFrom : ℕ → List ℕ → ℕ → List ℕ → Fields → Result (List ℕ)
-encodeFrom more taken at [] f = pick (noneLeft f) (good []) (bad (badList at))
-encodeFrom zero taken at (id ∷ ids) f = bad (badList at)
-encodeFrom (suc more) taken at (id ∷ ids) f =
-    pick (firstHolds f and not (among taken id))
-    (inFrontOf (firstBytes id f) (encodeFrom more (taken ++ id ∷ []) (at + 2 + firstLength f) ids (behindFirst f)))
-    (bad (badList at))
+-- the list with the configurations written behind its front, in which these key ids are taken; the next one starts where the front ends
+unfoldable pub encodeBehind : List ℕ → List ℕ → List Given → Result (List ℕ)
+encodeBehind front taken [] = good front
+encodeBehind front taken (leftOver ∷ more) = bad (badList (length front))
+encodeBehind front taken (configuration keyId kem keyLength key pairCount pairs ∷ more) =
+    pick
+    (ltb (length taken) mostConfigurations
+    and fieldsHold kem keyLength (length key) pairCount (length pairs)
+    and not (among taken keyId))
+    (encodeBehind (front ++ configurationBytes keyId kem keyLength key pairCount pairs) (taken ++ keyId ∷ []) more)
+    (bad (badList (length front)))
 
 -- a list is one configuration or more
 unfoldable pub encode : List ℕ → Fields → Result (List ℕ)
 encode [] f = bad (badList 0)
-encode (id ∷ ids) f = encodeFrom mostConfigurations [] 0 (id ∷ ids) f
-
--- the length of the list, or the refusal, before any buffer is looked at
-abbrev pub lengthWritten : Result (List ℕ) → Written
-lengthWritten (good bytes) = Written.Length (length bytes)
-lengthWritten (bad r) = Written.Refused r
+encode (id ∷ ids) f = encodeBehind [] [] (cut (id ∷ ids) f)
 
 -- the answer for a buffer of a length: 15 with the place, then 14, or the length written
 abbrev pub writtenIn : ℕ → Result (List ℕ) → Written
@@ -135,7 +89,3 @@ writtenIn room (bad r) = Written.Refused r
 abbrev pub writtenTo : List ℕ → Result (List ℕ) → List ℕ
 writtenTo buffer (good bytes) = pick (leb (length bytes) (length buffer)) (withFront bytes buffer) buffer
 writtenTo buffer (bad r) = buffer
-
--- the fields keep the layout's rules, and there is room for their list
-abbrev pub Fitting : Result (List ℕ) → ℕ → Type 0
-Fitting outcome room = (bytes : List ℕ) × (outcome ≡ good bytes) × (length bytes ≤ room)

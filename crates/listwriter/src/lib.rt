@@ -8,8 +8,8 @@ ghost use Rattle.wire.specs.Tests.{_and_};
 ghost use Rattle.wire.specs.Search.{among};
 ghost use Rattle.wire.specs.Bytes.{wordsBytes};
 ghost use Rattle.wire.specs.Helpers.{overwritten};
-ghost use Rattle.listwriter.specs.Writer.{fields, fieldsFrom, fieldsHold, firstHolds, noneLeft, lengthOf, configurationBytes};
-ghost use Rattle.listwriter.specs.Writer.{encode, lengthWritten, writtenIn, writtenTo, Fitting};
+ghost use Rattle.listwriter.specs.Writer.{fields, fieldsHold, noneLeft, configurationBytes, encode, writtenIn, writtenTo};
+ghost use Rattle.listwriter.specs.Helpers.{fieldsFrom, firstHolds, lengthWritten, Fitting};
 use algorithms::Kem;
 use algorithms::Size;
 use keylist::check::MOST_CONFIGURATIONS;
@@ -131,7 +131,7 @@ impl Cursor {
     fn next(self, key: usize, pair_count: usize) -> Self
         requires { ⌜ (self .index < 16) × (self .at ≤ 4096) × (self .«key_at» ≤ 4096) × (self .«pair_at» ≤ 4096)
             × (key ≤ 133) × («pair_count» ≤ 32) ⌝ }
-        ensures { λ r. ⌜ (r .index ≡ self .index + 1) × (r .at ≡ self .at + 2 + lengthOf key «pair_count»)
+        ensures { λ r. ⌜ (r .index ≡ self .index + 1) × (r .at ≡ self .at + 2 + (5 + key + «pair_count» * 2))
             × (r .«key_at» ≡ self .«key_at» + key) × (r .«pair_at» ≡ self .«pair_at» + «pair_count») ⌝ }
     {
         Cursor {

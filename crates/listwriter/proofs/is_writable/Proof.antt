@@ -1,7 +1,8 @@
 -- `listwriter::is_writable` meets its contract.
 -- Assumes nothing.
 use Rattle.listwriter.proofs.FieldsWalk.{holds-from}
-use Rattle.listwriter.specs.Writer.{fields, fieldsFrom, firstHolds}
+use Rattle.listwriter.specs.Writer.{fields}
+use Rattle.listwriter.specs.Helpers.{fieldsFrom, firstHolds}
 use lib.ListN.{length-take}
 use mathlib.Core.Path.{_≡_, sym, _∙_}
 use native.Mathlib.Omega.{arith}

@@ -5,7 +5,8 @@ use Rattle.listwriter.proofs.FieldsWalk.{length-more, encodeAt, writabl
 use Rattle.wire.specs.Search.{among}
 use Rattle.wire.proofs.Booleans.{and-left}
 use mathlib.Core.Bool.{true, not}
-use Rattle.listwriter.specs.Writer.{Fields, fields, fieldsFrom, firstHolds, encode, lengthWritten}
+use Rattle.listwriter.specs.Writer.{Fields, fields, encode}
+use Rattle.listwriter.specs.Helpers.{fieldsFrom, firstHolds, lengthWritten}
 use Rattle.listwriter.specs.declared.Written.{Written}
 use mathlib.Core.Path.{_≡_, sym, ap, _∙_}
 use mathlib.Core.List.{List}

@@ -5,7 +5,8 @@ use lib.Dec.{leb}
 use lib.ListN.{length}
 use borrow.Author.Tests.{lt-leb, le-leb}
 use Rattle.wire.specs.Tests.{_and_}
-use Rattle.listwriter.specs.Writer.{Fields, fields, fieldsFrom, noneLeft}
+use Rattle.listwriter.specs.Writer.{Fields, fields, noneLeft}
+use Rattle.listwriter.specs.Helpers.{fieldsFrom}
 use Rattle.listwriter.proofs.FieldsWalk.{leftTests, left-tests}
 use Rattle.listwriter.proofs.none_left.Statement.{statement}
 use Rattle.listwriter.proofs.none_left.Tie as tie

@@ -1,7 +1,8 @@
 -- `listwriter::write` meets its contract: the first walk answers the length, which is held against the buffer before anything is written.
 -- Assumes nothing.
 use Rattle.listwriter.proofs.Writing.{answer-refused, answer-no-room, answer-room}
-use Rattle.listwriter.specs.Writer.{fields, encode, lengthWritten}
+use Rattle.listwriter.specs.Writer.{fields, encode}
+use Rattle.listwriter.specs.Helpers.{lengthWritten}
 use Rattle.keylist.specs.Layout.{Result}
 use Rattle.listwriter.specs.declared.Written.{Written}
 use mathlib.Core.Path.{_≡_}

@@ -1,6 +1,5 @@
 -- `listwriter::write_configuration` meets its contract: four writes, one behind the other, are one.
 -- Assumes nothing.
-use Rattle.listwriter.specs.Writer.{lengthOf}
 use Rattle.wire.proofs.Writes.{overwritten-four}
 use Rattle.wire.proofs.Words.{words-length}
 use Rattle.wire.specs.Bytes.{wordBytes, wordsBytes}
@@ -22,7 +21,7 @@ returns c =
     let a = first .before .before .before .before .before .before .args in
     let key : List ℕ = a .key .now in
     let pairs : List ℕ = a .pairs .now in
-    let head : List ℕ = wordBytes (lengthOf (length key) (length pairs)) ++ a .id ∷ wordBytes (a .kem) in
+    let head : List ℕ = wordBytes (5 + length key + length pairs * 2) ++ a .id ∷ wordBytes (a .kem) in
     let seven : a .at + 7 + length key ≡ a .at + 5 + length key + 2 = omega arith in
     let size : length (wordsBytes pairs) ≡ length pairs * 2 = words-length pairs in
     words .write-words .ensures

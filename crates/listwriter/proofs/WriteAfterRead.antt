@@ -1,0 +1,165 @@
+-- Writing what was read by the layout gives the same bytes: specs/Stated's WriteAfterRead.
+-- Assumes nothing.
+use mathlib.Core.Path.{_≡_, refl, sym, _∙_}
+use mathlib.Core.Bool.{Bool, true, false, not}
+use mathlib.Core.List.{List, [], _∷_, _++_, flatMap}
+use Prim.Native.Nat.{ℕ, zero, suc, _+_, _*_, _/_, _%_, _≤_, _<_}
+use native.Mathlib.Nat.{add-assoc, add-zero}
+use native.Mathlib.Numerals.{add-one}
+use native.Mathlib.Omega.{arith}
+use lib.Dec.{leb}
+use lib.ListN.{length, drop, take-append-drop, length-append, length-drop, drop-of-length-le}
+use lib.Seq.{length-take-le, take-append-seam, drop-append-seam, drop-drop, drop-cons}
+use borrow.Author.Tests.{leb-true, le-leb, eq-eqb}
+use Rattle.wire.specs.Tests.{pick, _and_}
+use Rattle.wire.specs.Bytes.{byteAt, wordAt, wordBytes, wordsBytes, part}
+use Rattle.wire.specs.Search.{among}
+use Rattle.wire.specs.Refusals.{badList}
+use Rattle.wire.proofs.Booleans.{either, and-left, and-right}
+use Rattle.algorithms.specs.Sizes.{knownKem, publicKeyLength}
+use Rattle.keylist.specs.Layout.{Configuration, good, bad, lengthAt, keyIdAt, kemAt, keyStart, keyEnd, pairBytesAt, pairsAt, pairsStart, nextStart, configurationAt, pairBytesHold, layoutHolds, followedBy, parseFrom, parse, mostConfigurations, Result}
+use Rattle.keylist.proofs.LayoutLaws.{Holds, holds}
+use Rattle.keylist.proofs.Parsing.{no-refusal}
+use Rattle.listwriter.specs.Helpers.{firstHolds}
+use Rattle.listwriter.specs.Stated.{AreBytes, pairNumbers, idsOf, asFields, WriteAfterRead}
+use Rattle.listwriter.proofs.FlatFields.{behindFirst, firstLength, firstBytes, encodeFrom, walk, same-fields, first-laid, end-given}
+use Rattle.listwriter.proofs.Cutting.{encode-is-walk}
+
+module _ (bytes : List ℕ) where
+  -- what stands at an offset, as what is read there
+  byte-back : (at : ℕ) → at < length bytes → drop at bytes ≡ byteAt bytes at ∷ drop (at + 1) bytes
+  byte-back at h = rw (add-one, drop-cons bytes at 0)
+
+  part-back : (at n : ℕ) → drop at bytes ≡ part bytes at n ++ drop (at + n) bytes
+  part-back at n = rw (← drop-drop n at bytes) (sym (take-append-drop n (drop at bytes)))
+
+  pairs-length : (n at : ℕ) → length (pairNumbers (pairsAt n bytes at)) ≡ n * 2
+  unfolding pairsAt flatMap
+  pairs-length zero at = refl
+  pairs-length (suc n) at = omega (arith, pairs-length n (at + 4))
+
+  module _ (all : AreBytes bytes) where
+    word-back : (at : ℕ) → at + 2 ≤ length bytes → drop at bytes ≡ wordBytes (wordAt bytes at) ++ drop (at + 2) bytes
+    word-back at h =
+        let high : wordAt bytes at / 256 ≡ byteAt bytes at = omega (arith, all (at + 1)) in
+        let low : wordAt bytes at % 256 ≡ byteAt bytes (at + 1) = omega (arith, all (at + 1)) in
+        rw (high, low, byte-back at (omega arith), byte-back (at + 1) (omega arith), add-assoc at 1 1)
+
+    pairs-back : (n at : ℕ) → at + n * 4 ≤ length bytes
+        → drop at bytes ≡ wordsBytes (pairNumbers (pairsAt n bytes at)) ++ drop (at + n * 4) bytes
+    unfolding pairsAt flatMap
+    pairs-back zero at h = rw add-zero
+    pairs-back (suc n) at h =
+        let end : at + suc n * 4 ≡ at + 4 + n * 4 = omega arith in
+        rw (end, ← pairs-back n (at + 4) (omega arith), word-back at (omega arith), word-back (at + 2) (omega arith), add-assoc at 2 2)
+
+-- the first of some configurations as the first of their fields
+enough : (front rest : List ℕ) → leb (length front) (length (front ++ rest)) ≡ true
+enough front rest = le-leb (length front) (length (front ++ rest)) (rw length-append (omega arith))
+
+module _ (c : Configuration) (cs : List Configuration) where
+  behind-first : behindFirst (asFields (c ∷ cs)) ≡ asFields cs
+  unfolding flatMap
+  behind-first =
+      same-fields refl refl (drop-append-seam (c .publicKey) (flatMap (λ c. c .publicKey) cs)) refl
+      (drop-append-seam (pairNumbers (c .pairs)) (flatMap (λ c. pairNumbers (c .pairs)) cs))
+
+  first-holds : knownKem (c .kem) ≡ true → length (c .publicKey) ≡ publicKeyLength (c .kem)
+      → pairBytesHold (length (pairNumbers (c .pairs)) * 2) ≡ true → firstHolds (asFields (c ∷ cs)) ≡ true
+  unfolding firstHolds flatMap
+  first-holds known key pairs =
+      rw (
+        known,
+        eq-eqb (length (c .publicKey)) (publicKeyLength (c .kem)) key,
+        enough (c .publicKey) (flatMap (λ c. c .publicKey) cs),
+        pairs,
+        enough (pairNumbers (c .pairs)) (flatMap (λ c. pairNumbers (c .pairs)) cs),
+      )
+
+module _ (bytes : List ℕ) (all : AreBytes bytes) (at : ℕ) (says : Holds bytes at) (cs : List Configuration) where
+  key-length : length (configurationAt bytes at .publicKey) ≡ publicKeyLength (kemAt bytes at)
+  unfolding configurationAt
+  key-length = length-take-le (publicKeyLength (kemAt bytes at)) (drop (keyStart at) bytes) (rw length-drop (omega arith))
+
+  pairs-size : length (pairNumbers (configurationAt bytes at .pairs)) * 2 ≡ pairBytesAt bytes at
+  unfolding configurationAt
+  pairs-size = omega (arith, pairs-length bytes (pairBytesAt bytes at / 4) (pairsStart bytes at))
+
+  head-written : drop at bytes ≡ (wordBytes (lengthAt bytes at) ++ keyIdAt bytes at ∷ wordBytes (kemAt bytes at)) ++ drop (keyStart at) bytes
+  head-written =
+      rw (word-back bytes all at (omega arith), byte-back bytes (at + 2) (omega arith), add-assoc at 2 1)
+      (rw (word-back bytes all (at + 3) (omega arith), add-assoc at 3 2))
+
+  tail-written : drop (keyStart at) bytes
+      ≡ configurationAt bytes at .publicKey ++ (wordBytes (pairBytesAt bytes at)
+      ++ (wordsBytes (pairNumbers (configurationAt bytes at .pairs)) ++ drop (nextStart bytes at) bytes))
+  unfolding configurationAt
+  tail-written =
+      let end : nextStart bytes at ≡ pairsStart bytes at + pairBytesAt bytes at / 4 * 4 = omega arith in
+      rw (end, ← pairs-back bytes all (pairBytesAt bytes at / 4) (pairsStart bytes at) (omega arith))
+      (rw (← word-back bytes all (keyEnd bytes at) (omega arith)) (part-back bytes (keyStart at) (publicKeyLength (kemAt bytes at))))
+
+  size-written : firstLength (asFields (configurationAt bytes at ∷ cs)) ≡ lengthAt bytes at
+  size-written = omega (arith, key-length, pairs-size)
+
+  bytes-written : drop at bytes ≡ firstBytes (keyIdAt bytes at) (asFields (configurationAt bytes at ∷ cs)) ++ drop (nextStart bytes at) bytes
+  unfolding configurationAt flatMap
+  bytes-written =
+      rw (
+        first-laid (keyIdAt bytes at) (asFields (configurationAt bytes at ∷ cs)) (drop (nextStart bytes at) bytes),
+        take-append-seam (configurationAt bytes at .publicKey) (flatMap (λ c. c .publicKey) cs),
+        take-append-seam (pairNumbers (configurationAt bytes at .pairs)) (flatMap (λ c. pairNumbers (c .pairs)) cs),
+        size-written,
+        pairs-size,
+        ← tail-written,
+      )
+      head-written
+
+  write-first : (more : ℕ) (taken : List ℕ) → not (among taken (keyIdAt bytes at)) ≡ true
+      → encodeFrom more (taken ++ keyIdAt bytes at ∷ []) (nextStart bytes at) (idsOf cs) (asFields cs) ≡ good (drop (nextStart bytes at) bytes)
+      → encodeFrom (suc more) taken at (idsOf (configurationAt bytes at ∷ cs)) (asFields (configurationAt bytes at ∷ cs)) ≡ good (drop at bytes)
+  unfolding encodeFrom configurationAt
+  write-first more taken fresh encoded =
+      let holds = first-holds (configurationAt bytes at) cs (says .kem) key-length (rw pairs-size (says .pairs .0)) in
+      rw (bytes-written, holds, fresh, size-written, behind-first (configurationAt bytes at) cs, encoded)
+
+-- a result comes from no refusal, so the tests on its way held
+first-given : (test : Bool) (c : Configuration) (o : Result (List Configuration)) (at : ℕ) {cs : List Configuration}
+    → pick test (followedBy c o) (bad (badList at)) ≡ good cs
+    → (rest : List Configuration) × (test ≡ true) × (o ≡ good rest) × (c ∷ rest ≡ cs)
+first-given true c (good rest) at e = (rest, refl, refl, cc)
+first-given true c (bad r) at e = no-refusal e
+first-given false c o at e = no-refusal e
+
+-- writing what was read from an offset gives the bytes from there on
+write-end : (more : ℕ) (taken bytes : List ℕ) (at : ℕ) (cs : List Configuration) → length bytes ≤ at → [] ≡ cs
+    → encodeFrom more taken at (idsOf cs) (asFields cs) ≡ good (drop at bytes)
+unfolding encodeFrom flatMap
+write-end more taken bytes at cs h e = rw (← e, drop-of-length-le bytes h)
+
+write-from : (more : ℕ) (taken bytes : List ℕ) (at : ℕ) (cs : List Configuration) → AreBytes bytes
+    → parseFrom more taken bytes at ≡ good cs → encodeFrom more taken at (idsOf cs) (asFields cs) ≡ good (drop at bytes)
+unfolding parseFrom
+write-from zero taken bytes at cs all e =
+    let (end, nothing) = end-given (leb (length bytes) at) at e in
+    write-end zero taken bytes at cs (leb-true (length bytes) at end) nothing
+write-from (suc more) taken bytes at cs all e =
+    either (leb (length bytes) at)
+    (λ end. write-end (suc more) taken bytes at cs (leb-true (length bytes) at end) (cc))
+    (λ inside.
+    let fresh = not (among taken (keyIdAt bytes at)) in
+    let parsedRest = parseFrom more (taken ++ keyIdAt bytes at ∷ []) bytes (nextStart bytes at) in
+    let (rest, test, parsed, whole) = first-given (layoutHolds bytes at and fresh) (configurationAt bytes at) parsedRest at (rw inside at e) in
+    let says = holds bytes at (and-left (layoutHolds bytes at) fresh test) in
+    rw (← whole)
+    (write-first bytes all at says rest more taken (and-right (layoutHolds bytes at) fresh test)
+    (write-from more (taken ++ keyIdAt bytes at ∷ []) bytes (nextStart bytes at) rest all parsed)))
+
+pub write-after-read : WriteAfterRead
+unfolding walk parse encodeFrom flatMap
+write-after-read [] cs all e = no-refusal e
+write-after-read (b ∷ bytes) [] all e =
+    let written : _≡_ {A = Result (List ℕ)} (good []) (good (b ∷ bytes)) = write-from mostConfigurations [] (b ∷ bytes) 0 [] all e in
+    absurd (let z : _≡_ {A = ℕ} 0 1 = cc in omega arith)
+write-after-read (b ∷ bytes) (c ∷ cs) all e =
+    encode-is-walk (idsOf (c ∷ cs)) (asFields (c ∷ cs)) ∙ write-from mostConfigurations [] (b ∷ bytes) 0 (c ∷ cs) all e
