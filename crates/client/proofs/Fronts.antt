@@ -15,9 +15,9 @@ use Rattle.client.specs.declared.head.HeadAnswer.{HeadAnswer}
 use Rattle.client.specs.Head.{headRefusal, headAnswer}
 use Rattle.wire.specs.Texts.{headLength, infoLength}
 
-pub head-refused : (n length : ℕ) → (n ≡ 0 → ⊥) → HeadAnswer.Refused (refused n) ≡ headAnswer n length
-head-refused zero length h = absurd (h refl)
-head-refused (suc n) length h = refl
+pub head-refused : (n size : ℕ) → (n ≡ 0 → ⊥) → HeadAnswer.Refused (refused n) ≡ headAnswer n size
+head-refused zero size h = absurd (h refl)
+head-refused (suc n) size h = refl
 
 -- no refusal: enc is as long as the KEM says, and both buffers have room
 pub head-accepted : (kem kdf aead : ℕ) (enc : List ℕ) (headRoom infoRoom : ℕ)

@@ -1,12 +1,6 @@
 // The head of a request and its info.
 ghost use mathlib.Core.Path.{_≡_};
-ghost use Prim.Native.Nat.{_+_};
-ghost use lib.ListN.{length};
-ghost use mathlib.Core.List.{_++_};
-ghost use Rattle.wire.specs.Refusals.{written};
-ghost use Rattle.wire.specs.Texts.{headLength, headBytes, infoBytes};
-ghost use Rattle.algorithms.specs.Sizes.{encLength};
-ghost use Rattle.client.specs.Head.{headRefusal, headAnswer};
+ghost use Rattle.client.specs.Head.{headRefusal, headDoes};
 use algorithms::Aead;
 use algorithms::Kdf;
 use algorithms::Kem;
@@ -33,15 +27,9 @@ pub fn write(
     head: &mut [u8],
     info: &mut [u8],
 ) -> HeadAnswer
-    ensures answer { λ r. ⌜ r ≡ headAnswer
-        (headRefusal (kem .0) (kdf .0) (aead .0) (now (enc .entry)) (length (now (head .entry))) (length (now (info .entry))))
-        (headLength + encLength (kem .0)) ⌝ }
-    ensures request { λ r. ⌜ now (head .exit) ≡ written
-        (headRefusal (kem .0) (kdf .0) (aead .0) (now (enc .entry)) (length (now (head .entry))) (length (now (info .entry))))
-        (headBytes («key_id» .0) (kem .0) (kdf .0) (aead .0) ++ now (enc .entry)) (now (head .entry)) ⌝ }
-    ensures context { λ r. ⌜ now (info .exit) ≡ written
-        (headRefusal (kem .0) (kdf .0) (aead .0) (now (enc .entry)) (length (now (head .entry))) (length (now (info .entry))))
-        (infoBytes (headBytes («key_id» .0) (kem .0) (kdf .0) (aead .0))) (now (info .entry)) ⌝ }
+    ensures { λ r.
+        let done = headDoes («key_id» .0) (kem .0) (kdf .0) (aead .0) (now (enc .entry)) (now (head .entry)) (now (info .entry)) in
+        ⌜ (r ≡ done .answer) × (now (head .exit) ≡ done .head) × (now (info .exit) ≡ done .info) ⌝ }
 {
     let number = refusal(kem, kdf, aead, enc, head.len(), info.len());
     if number != 0 {

@@ -1,14 +1,11 @@
 // The client's side: choose, head, the split's lengths; and for both sides the exporter context.
 ghost use mathlib.Core.Path.{_≡_};
-ghost use Prim.Native.Nat.{_+_};
-ghost use mathlib.Core.List.{_++_};
 ghost use lib.ListN.{length};
 ghost use Rattle.wire.specs.Refusals.{written};
-ghost use Rattle.wire.specs.Texts.{headLength, headBytes, infoBytes, exporterContext};
-ghost use Rattle.algorithms.specs.Sizes.{encLength};
+ghost use Rattle.wire.specs.Texts.{exporterContext};
 ghost use Rattle.keylist.specs.Layout.{parse};
 ghost use Rattle.client.specs.Choose.{chooseFrom};
-ghost use Rattle.client.specs.Head.{headRefusal, headAnswer};
+ghost use Rattle.client.specs.Head.{headDoes};
 ghost use Rattle.client.specs.Split.{splitAnswer};
 ghost use Rattle.results.specs.Client.{chooseResult, headResult, splitResult, exporterRefusal, exporterResult};
 use algorithms::Aead;
@@ -46,15 +43,9 @@ pub extern "C" fn sealwax_head(
     head: &mut [u8],
     info: &mut [u8],
 ) -> NumberResult
-    ensures result { λ r. ⌜ r ≡ headResult (headAnswer
-        (headRefusal kem kdf aead (now (enc .entry)) (length (now (head .entry))) (length (now (info .entry))))
-        (headLength + encLength kem)) ⌝ }
-    ensures request { λ r. ⌜ now (head .exit) ≡ written
-        (headRefusal kem kdf aead (now (enc .entry)) (length (now (head .entry))) (length (now (info .entry))))
-        (headBytes «key_id» kem kdf aead ++ now (enc .entry)) (now (head .entry)) ⌝ }
-    ensures context { λ r. ⌜ now (info .exit) ≡ written
-        (headRefusal kem kdf aead (now (enc .entry)) (length (now (head .entry))) (length (now (info .entry))))
-        (infoBytes (headBytes «key_id» kem kdf aead)) (now (info .entry)) ⌝ }
+    ensures { λ r.
+        let done = headDoes «key_id» kem kdf aead (now (enc .entry)) (now (head .entry)) (now (info .entry)) in
+        ⌜ (r ≡ headResult (done .answer)) × (now (head .exit) ≡ done .head) × (now (info .exit) ≡ done .info) ⌝ }
 {
     let answer = head::write(
         KeyId(key_id),

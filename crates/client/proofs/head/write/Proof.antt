@@ -8,6 +8,7 @@ use borrow.Author.Needs.{needs}
 use Rattle.wire.specs.Texts.{headLength, requestLabel, infoBytes, headBytes, infoLength}
 use Rattle.wire.proofs.Writes.{front-first, front-more}
 use Rattle.algorithms.specs.Sizes.{encLength}
+use Rattle.client.specs.Head.{headDoes}
 use Rattle.client.proofs.Fronts.{head-refused, head-accepted}
 use Rattle.wire.proofs.Numbers.{unless-refused}
 use Rattle.client.proofs.head.write.Statement.{statement}
@@ -28,14 +29,15 @@ accepted : (c : tie.Else1)
 accepted c = head-accepted _ _ _ _ _ _ (sym (c .before .refusal .ensures) ∙ c .if1 .left)
 
 returns : tie.Need-returns
+unfolding headDoes
 returns c =
     let number = c .before .before .refusal .result in
     let refuses = c .before .if1 .taken in
     rw (← c .before .before .refusal .ensures, c .of .ensures)
-    (head-refused number _ refuses, (unless-refused number _ _ refuses, unless-refused number _ _ refuses))
+    (head-refused number _ refuses, unless-refused number _ _ refuses, unless-refused number _ _ refuses)
 
 returns-2 : tie.Need-returns-2
-unfolding requestLabel
+unfolding headDoes requestLabel
 returns-2 c =
     let a = passed c .before .before .before .before .before .args in
     let fits = accepted (passed c) in
@@ -46,13 +48,11 @@ returns-2 c =
     let bytes = front .before .before .before .head .ensures in
     rw (← passed c .before .refusal .ensures, passed c .if1 .left) (
       rw (fits .0),
-      (
-        behind .overwrite2 .ensures
-            ∙ rw (front .overwrite .ensures, bytes, front-first first (a .head .now) (omega arith))
-            (front-more first (a .enc .now) (a .head .now) (omega arith)),
-        c .before .before .overwrite3 .ensures
-            ∙ rw (context .info .ensures, bytes) (front-first (infoBytes first) (a .info .now) (omega arith)),
-      ),
+      behind .overwrite2 .ensures
+          ∙ rw (front .overwrite .ensures, bytes, front-first first (a .head .now) (omega arith))
+          (front-more first (a .enc .now) (a .head .now) (omega arith)),
+      c .before .before .overwrite3 .ensures
+          ∙ rw (context .info .ensures, bytes) (front-first (infoBytes first) (a .info .now) (omega arith)),
     )
 
 pub write-spec : {M : Type 1} → statement M
