@@ -30,3 +30,5 @@ pub mod Pulling
 pub mod Chosen
 pub mod Moving
 pub mod Demand3
+-- client and gateway:
+pub mod Agreement

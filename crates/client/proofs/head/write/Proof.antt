@@ -1,13 +1,14 @@
 -- `client::head::write` meets its contract: the head and its info by the laws of writes at the front, and nothing on refusal.
 -- Assumes nothing.
 use mathlib.Core.Path.{_≡_, sym, _∙_}
+use mathlib.Core.Bool.{true}
 use Prim.Native.Nat.{_+_, _≤_}
 use native.Mathlib.Omega.{arith}
 use lib.ListN.{length}
 use borrow.Author.Needs.{needs}
 use Rattle.wire.specs.Texts.{headLength, requestLabel, infoBytes, headBytes, infoLength}
 use Rattle.wire.proofs.Writes.{front-first, front-more}
-use Rattle.algorithms.specs.Sizes.{encLength}
+use Rattle.algorithms.specs.Sizes.{knownKem, encLength}
 use Rattle.client.specs.Head.{headDoes}
 use Rattle.client.proofs.Fronts.{head-refused, head-accepted}
 use Rattle.wire.proofs.Numbers.{unless-refused}
@@ -20,10 +21,11 @@ passed c =
     c .before .before .before .before .before .before .before .before
     .before .before .before .before .before .before .before .before
 
--- nothing is refused: enc is as long as the KEM says, and both buffers have room
+-- nothing is refused: the KEM is known, enc is as long as it says, and both buffers have room
 accepted : (c : tie.Else1)
     → let a = c .before .before .before .before .before .args in
-    (length (a .enc .now) ≡ encLength (a .kem .0))
+    (knownKem (a .kem .0) ≡ true)
+    × (length (a .enc .now) ≡ encLength (a .kem .0))
     × (headLength + encLength (a .kem .0) ≤ length (a .head .now))
     × (infoLength ≤ length (a .info .now))
 accepted c = head-accepted _ _ _ _ _ _ (sym (c .before .refusal .ensures) ∙ c .if1 .left)
@@ -47,7 +49,7 @@ returns-2 c =
     let front = behind .before .before .before .before in
     let bytes = front .before .before .before .head .ensures in
     rw (← passed c .before .refusal .ensures, passed c .if1 .left) (
-      rw (fits .0),
+      rw (fits .1),
       behind .overwrite2 .ensures
           ∙ rw (front .overwrite .ensures, bytes, front-first first (a .head .now) (omega arith))
           (front-more first (a .enc .now) (a .head .now) (omega arith)),

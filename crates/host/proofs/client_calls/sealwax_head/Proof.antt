@@ -7,7 +7,9 @@ use Rattle.host.proofs.client_calls.sealwax_head.Statement.{statement}
 use Rattle.host.proofs.client_calls.sealwax_head.Tie as tie
 
 returns : tie.Need-returns
-returns c = let done = c .before .before .before .before .before .write .ensures in (c .head-result .ensures ∙ ap headResult (done .0), done .1, done .2)
+returns c =
+    let done = c .before .before .before .before .before .write .ensures in
+    (c .head-result .ensures ∙ ap headResult (done .0), done .1, done .2)
 
 pub sealwax-head-spec : {M : Type 1} → statement M
 sealwax-head-spec = tie.close (tie.spec (λ c κs. search needs) (λ c κs. search needs) (λ c. search needs) (λ c. search needs) returns)
