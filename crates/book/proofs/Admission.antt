@@ -15,7 +15,8 @@ use Rattle.gateway.specs.View.{registryOf}
 use Rattle.gateway.specs.Calls.{admit, number}
 use Rattle.book.specs.Book.{Book, freshBook}
 use Rattle.book.specs.History.{gatewayAfter}
-use Rattle.book.specs.OneCall.{Admissible, AdmissionExactly, PlaceIsFree}
+use Rattle.book.specs.OneCall.{Admissible, AdmissionExactly}
+use Rattle.book.specs.Storage.{PlaceIsFree}
 use Rattle.book.proofs.Accepting.{admit-accepted}
 use Rattle.book.proofs.Placing.{place-inside, place-free}
 use Rattle.book.proofs.Numbers.{admit-number}

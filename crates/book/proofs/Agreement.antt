@@ -10,16 +10,15 @@ use lib.Dec.{eqb, leb}
 use lib.ListN.{length, take, drop, length-append}
 use lib.Seq.{take-at, take-all, drop-at, take-append-seam, drop-append-seam}
 use borrow.Author.Tests.{le-ltb}
-use Rattle.wire.specs.Texts.{headLength, headBytes, requestLabel, infoLength, infoBytes}
+use Rattle.wire.specs.Texts.{headLength, headBytes, requestLabel, infoLength, infoBytes, longestRequest, longestPlain}
 use Rattle.wire.proofs.Booleans.{and-left, and-right}
 use Rattle.algorithms.specs.Sizes.{knownKem, knownAead, encLength, responseNonceLength, tagLength}
 use Rattle.client.specs.declared.head.HeadAnswer.{HeadAnswer}
 use Rattle.client.specs.declared.split.Parts.{Parts}
 use Rattle.client.specs.Head.{headRefusal, headAndEnc, headDoes}
-use Rattle.client.specs.Split.{longestPlain, splitRefusal, splitAnswer}
+use Rattle.client.specs.Split.{splitRefusal, splitAnswer}
 use Rattle.client.proofs.Fronts.{head-answered, head-accepted}
-use Rattle.request.specs.Request.{longestRequest, kemOf, encEnd, ciphertextLength, fieldsOf}
-use Rattle.request.proofs.Requests.{request-accepted}
+use Rattle.request.specs.Request.{kemOf, encEnd, ciphertextLength, fieldsOf}
 use Rattle.exchange.specs.declared.Exchange.{Exchange}
 use Rattle.exchange.specs.declared.Move.{Move}
 use Rattle.exchange.specs.declared.StepAnswer.{StepAnswer}
@@ -75,7 +74,7 @@ module _ (keyId kem kdf aead size : ℕ) (enc head info ciphertext : List ℕ)
   request-read tag limit =
       let whole : length request ≡ size + length ciphertext = length-append front ciphertext ∙ omega (arith, told, fits) in
       rw (head-holds, info-holds) (record {
-        notRefused = request-accepted request (rw kem-read (fits .0)) (rw kem-read (omega (arith, told))) (omega arith);
+        wellFormed = record { kem = rw kem-read (fits .0); longEnough = rw kem-read (omega (arith, told)); notTooLong = omega arith };
         sameKeyId = refl;
         sameKem = kem-read;
         sameKdf = div-add-mod' kdf 256;

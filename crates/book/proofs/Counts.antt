@@ -16,7 +16,8 @@ use Rattle.gateway.specs.Calls.{Call}
 use Rattle.book.specs.Book.{freshBook, bookDoes}
 use Rattle.book.specs.History.{trace}
 use Rattle.book.specs.Demand3.{bookAfter}
-use Rattle.book.specs.Counts.{Counts, CountsHold, NothingWraps, countingFrom}
+use Rattle.book.specs.Counts.{Counts, CountsHold, countingFrom}
+use Rattle.book.specs.Storage.{NothingWraps}
 use Rattle.book.proofs.KeyCounts.{same-id, same-length, fresh-count, each-key}
 use Rattle.book.proofs.Sound.{Sound, ticket-bound}
 use Rattle.book.proofs.Refinement.{fresh-alike, alike-after, refinement-holds}

@@ -22,7 +22,8 @@ use Rattle.gateway.specs.Calls.{Call, onTicket, number, unprotectedStatus}
 use Rattle.book.specs.Book.{Book, freshBook, bookDoes, bookStepNumber}
 use Rattle.book.specs.History.{final, gatewayAfter, Accepts}
 use Rattle.book.specs.Demand3.{bookAfter}
-use Rattle.book.specs.Lifecycle.{holders, placeOfTicket, LifecycleHolds}
+use Rattle.book.specs.Lifecycle.{holders, LifecycleHolds}
+use Rattle.book.specs.Storage.{placeOfTicket, ClosedPlaceIsFree}
 use Rattle.book.proofs.Passing.{passing, passing-permuted}
 use Rattle.book.proofs.Table.{holding, holding-pending}
 use Rattle.book.proofs.Numbers.{step-number}
@@ -146,6 +147,8 @@ lifecycle-holds list cap calls ticket =
           (λ later e z a. next-not-asked (later .kind) e) (next-not-asked (opening .kind) _) between);
       afterClosing = λ step between later closing accepted.
           step-number later _ ∙ free-refuses later _ (closed-lasts list cap calls ticket step accepted closing between);
-      placeInside = λ step accepted. place-inside list cap calls ticket step accepted;
-      placeFree = λ step closing accepted. place-free list cap calls ticket step accepted closing;
     }
+
+pub closed-place-is-free : ClosedPlaceIsFree
+closed-place-is-free list cap calls ticket step accepted =
+    record { inside = place-inside list cap calls ticket step accepted; leftFree = place-free list cap calls ticket step accepted }

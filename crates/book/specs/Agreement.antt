@@ -4,18 +4,19 @@ use mathlib.Core.Path.{_≡_}
 use mathlib.Core.List.{List, _++_}
 use lib.ListN.{length, take}
 use Rattle.wire.specs.Bytes.{part}
-use Rattle.wire.specs.Texts.{infoLength}
+use Rattle.wire.specs.Texts.{infoLength, longestRequest}
 use Rattle.algorithms.specs.Sizes.{tagLength}
 use Rattle.client.specs.declared.head.HeadAnswer.{HeadAnswer}
 use Rattle.client.specs.declared.split.Parts.{Parts}
 use Rattle.client.specs.Head.{HeadDone, headDoes}
 use Rattle.client.specs.Split.{splitAnswer, noncePart, ciphertextPart}
-use Rattle.request.specs.Request.{longestRequest, keyIdOf, kemOf, kdfOf, aeadOf, fieldsOf, requestRefusal, infoOf}
+use Rattle.request.specs.Request.{keyIdOf, kemOf, kdfOf, aeadOf, fieldsOf, infoOf}
 use Rattle.exchange.specs.declared.Exchange.{Exchange}
 use Rattle.exchange.specs.declared.StepAnswer.{StepAnswer}
 use Rattle.exchange.specs.Steps.{respond, refusal, answer}
 use Rattle.gateway.specs.declared.admission.Admission.{Admission}
 use Rattle.gateway.specs.Registry.{admission}
+use Rattle.book.specs.OneCall.{WellFormed}
 
 -- the request that the client sends: what head wrote into its buffer, as many bytes as it answered, then the ciphertext
 abbrev pub requestOf : HeadDone → ℕ → List ℕ → List ℕ
@@ -30,8 +31,7 @@ ciphertextIn request a = part request (a .«ciphertext_start») (a .«ciphertext
 
 -- what the gateway reads of a request
 pub record Reads (request : List ℕ) (keyId kem kdf aead : ℕ) (enc ciphertext info : List ℕ) : Type 0 where
-  -- the request alone gives no refusal
-  pub notRefused : requestRefusal request ≡ 0
+  pub wellFormed : WellFormed request
   pub sameKeyId : keyIdOf request ≡ keyId
   pub sameKem : kemOf request ≡ kem
   pub sameKdf : kdfOf request ≡ kdf

