@@ -18,35 +18,28 @@ kdfKind = 2
 abbrev pub aeadKind : ℕ
 aeadKind = 3
 
--- a KEM with Nenc and Npk
-abbrev pub kemRow : ℕ → ℕ → ℕ → Row
-kemRow number nenc npk = record { kind = kemKind; number = number; enc = nenc; «public_key» = npk; key = 0 }
-
-abbrev pub kdfRow : ℕ → Row
-kdfRow number = record { kind = kdfKind; number = number; enc = 0; «public_key» = 0; key = 0 }
-
--- an AEAD with Nk
-abbrev pub aeadRow : ℕ → ℕ → Row
-aeadRow number nk = record { kind = aeadKind; number = number; enc = 0; «public_key» = 0; key = nk }
-
--- what stands for the row of a number that is unknown
-abbrev pub noRow : Row
-noRow = record { kind = 0; number = 0; enc = 0; «public_key» = 0; key = 0 }
+-- a row: its kind, its number, a KEM's Nenc and Npk, an AEAD's Nk
+abbrev pub row : ℕ → ℕ → ℕ → ℕ → ℕ → Row
+row kind number nenc npk nk = record { kind = kind; number = number; enc = nenc; «public_key» = npk; key = nk }
 
 unfoldable pub table : List Row
 table =
-    kemRow 0x0010 65 65
-    ∷ kemRow 0x0011 97 97
-    ∷ kemRow 0x0012 133 133
-    ∷ kemRow 0x0020 32 32
-    ∷ kemRow 0x0021 56 56
-    ∷ kdfRow 0x0001
-    ∷ kdfRow 0x0002
-    ∷ kdfRow 0x0003
-    ∷ aeadRow 0x0001 16
-    ∷ aeadRow 0x0002 32
-    ∷ aeadRow 0x0003 32
+    row kemKind 0x0010 65 65 0
+    ∷ row kemKind 0x0011 97 97 0
+    ∷ row kemKind 0x0012 133 133 0
+    ∷ row kemKind 0x0020 32 32 0
+    ∷ row kemKind 0x0021 56 56 0
+    ∷ row kdfKind 0x0001 0 0 0
+    ∷ row kdfKind 0x0002 0 0 0
+    ∷ row kdfKind 0x0003 0 0 0
+    ∷ row aeadKind 0x0001 0 0 16
+    ∷ row aeadKind 0x0002 0 0 32
+    ∷ row aeadKind 0x0003 0 0 32
     ∷ []
+
+-- what stands for the row of a number that is unknown
+abbrev pub noRow : Row
+noRow = row 0 0 0 0 0
 
 -- the row is that of the kind and the number
 abbrev pub isRow : ℕ → ℕ → Row → Bool

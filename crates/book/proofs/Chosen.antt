@@ -8,10 +8,10 @@ use native.Mathlib.Omega.{arith}
 use borrow.Author.Tests.{eqb-true, ne-eqb, not-true, not-false}
 use lib.Dec.{eqb}
 use lib.ListN.{length}
-use Rattle.wire.specs.Search.{anyPasses, among}
+use Rattle.wire.specs.Search.{anyPasses, among, filtered}
 use Rattle.wire.proofs.Booleans.{either, true-or-false}
 use Rattle.gateway.specs.Calls.{Call, admit, retire, onTicket, reporting}
-use Rattle.book.specs.History.{Event, filtered}
+use Rattle.book.specs.History.{Event}
 use Rattle.book.specs.Demand3.{keepsOrder, isOn}
 use Rattle.book.proofs.Pulling.{itsCalls, otherCalls}
 

@@ -19,7 +19,8 @@ use Rattle.keys.proofs.Named.{with-key}
 use Rattle.gateway.specs.Registry.{admitAnswer}
 use Rattle.gateway.specs.Calls.{Call, admit, retire, onTicket, reporting, Answer, ofAdmit, number}
 use Rattle.book.specs.Book.{Book, setIsFull, bookStepped, bookDoes, bookAdmitted, bookRetired, bookAdmitNumber, bookRetireNumber, bookStepNumber}
-use Rattle.book.specs.History.{Event, event, trace, final, filtered, isAccepted, admissionsOf, ticketsOf}
+use Rattle.book.specs.History.{Event, event, trace, final, isAccepted, ticketsOf}
+use Rattle.wire.specs.Search.{filtered}
 use mathlib.Core.Bool.{Bool, false}
 use Rattle.book.specs.Counts.{namesKey, admissionsOfKey, ticketsGiven, countingFrom}
 use Rattle.book.proofs.Accepting.{unless-kept, Admitted, admit-accepted}
@@ -125,7 +126,7 @@ counting-more first (suc n) =
 admit-gives : (request : List ℕ) (b : Book) (n : ℕ)
     → countingFrom 1 (b .registry .lastTicket) ++ ticketsOf (ofAdmit (admitAnswer n (b .registry .lastTicket + 1) request))
     ≡ countingFrom 1 (unlessRefused n (bookAdmitted request b) b .registry .lastTicket)
-unfolding admissionsOf
+unfolding ticketsOf
 admit-gives request b zero =
     let next : b .registry .lastTicket + 1 ≡ 1 + b .registry .lastTicket = omega arith in
     rw counting-more (rw next)
@@ -139,7 +140,7 @@ no-ticket (suc n) b c e = append-nil (countingFrom 1 (b .registry .lastTicket))
 gives : (b : Book) (call : Call)
     → countingFrom 1 (b .registry .lastTicket) ++ ticketsOf (bookDoes b call .answer)
     ≡ countingFrom 1 (bookDoes b call .state .registry .lastTicket)
-unfolding bookDoes admissionsOf
+unfolding bookDoes ticketsOf
 gives b (admit request info) = admit-gives request b (bookAdmitNumber request info b)
 gives b (retire id) = no-ticket (bookRetireNumber id b) b (bookRetired id b) refl
 gives b (onTicket ticket step) = no-ticket (bookStepNumber ticket step b) b (bookStepped ticket step b) refl

@@ -2,7 +2,7 @@
 -- Assumes nothing.
 use mathlib.Core.Path.{refl}
 use Rattle.wire.specs.Texts.{ascii, requestLabel}
-use Rattle.wire.specs.Search.{firstPlace, firstThat, anyPasses}
+use Rattle.wire.specs.Search.{firstPlace, firstThat, anyPasses, filtered}
 use Rattle.algorithms.specs.Table.{table, rowOf}
 use Rattle.algorithms.specs.Sizes.{knownKem, knownKdf, knownAead, encLength, publicKeyLength, keyLength}
 use Rattle.keylist.specs.Layout.{parse, parseFrom, layoutHolds, configurationAt, pairsAt}
@@ -14,16 +14,15 @@ use Rattle.keys.specs.Stored.{storedKeys}
 use Rattle.keys.specs.Keys.{keysOf, retireRefusal, withKey}
 use Rattle.gateway.specs.Registry.{admitRefusal}
 use Rattle.gateway.specs.Gateway.{freePlace, gatewayDoes}
-use Rattle.gateway.specs.View.{pendingIn}
 use Rattle.gateway.specs.Calls.{number}
-use Rattle.book.specs.History.{trace, final, filtered, admissionsOf}
+use Rattle.book.specs.History.{trace, final, ticketsOf}
 use Rattle.book.specs.Counts.{ticketsGiven}
 use Rattle.book.specs.Book.{bookDoes, replaced}
 use Rattle.book.specs.Demand3.{withOwnCalls}
 use Rattle.book.specs.Edges.{GatewayEdges, MovedExample}
 
 pub gateway-edges : GatewayEdges
-unfolding ascii requestLabel firstPlace anyPasses table rowOf knownKem knownKdf knownAead encLength publicKeyLength keyLength parse parseFrom layoutHolds configurationAt pairsAt hex edgeList leftIn refusalBy keysOf storedKeys admitRefusal freePlace pendingIn gatewayDoes number trace final admissionsOf ticketsGiven stepNumber firstThat retireRefusal withKey
+unfolding ascii requestLabel firstPlace anyPasses table rowOf knownKem knownKdf knownAead encLength publicKeyLength keyLength parse parseFrom layoutHolds configurationAt pairsAt hex edgeList leftIn refusalBy keysOf storedKeys admitRefusal freePlace filtered gatewayDoes number trace final ticketsOf ticketsGiven stepNumber firstThat retireRefusal withKey
 gateway-edges =
     record {
       lists = list-edges;
@@ -48,5 +47,5 @@ gateway-edges =
     }
 
 pub moved-example : MovedExample
-unfolding ascii requestLabel firstPlace anyPasses table rowOf knownKem knownKdf knownAead encLength publicKeyLength keyLength parse parseFrom layoutHolds configurationAt pairsAt hex edgeList leftIn refusalBy keysOf storedKeys admitRefusal freePlace pendingIn gatewayDoes number trace final admissionsOf ticketsGiven bookDoes replaced filtered withOwnCalls stepNumber firstThat retireRefusal withKey
+unfolding ascii requestLabel firstPlace anyPasses table rowOf knownKem knownKdf knownAead encLength publicKeyLength keyLength parse parseFrom layoutHolds configurationAt pairsAt hex edgeList leftIn refusalBy keysOf storedKeys admitRefusal freePlace filtered gatewayDoes number trace final ticketsOf ticketsGiven bookDoes replaced withOwnCalls stepNumber firstThat retireRefusal withKey
 moved-example = record { order = refl; sameAnswers = refl }

@@ -9,7 +9,7 @@ use native.Mathlib.Omega.{arith}
 use borrow.Author.Tests.{leb-true, leb-false, ltb-true, ltb-false}
 use lib.Dec.{leb, ltb}
 use lib.ListN.{length, getD, set, List·getD-eq-default}
-use Rattle.wire.specs.Search.{firstPlace}
+use Rattle.wire.specs.Search.{firstPlace, filtered}
 use Rattle.wire.proofs.Booleans.{either, true-or-false}
 use Rattle.exchange.specs.declared.Exchange.{Exchange}
 use Rattle.exchange.specs.Exchange.{free, isFree, isAsked, hasTicket, exchangeOf}
@@ -22,7 +22,7 @@ use Rattle.gateway.specs.Calls.{Call, onTicket, number, unprotectedStatus}
 use Rattle.book.specs.Book.{Book, freshBook, bookDoes, bookStepNumber}
 use Rattle.book.specs.History.{final, gatewayAfter, Accepts}
 use Rattle.book.specs.Demand3.{bookAfter}
-use Rattle.book.specs.Lifecycle.{holders, LifecycleHolds}
+use Rattle.book.specs.Lifecycle.{LifecycleHolds}
 use Rattle.book.specs.Storage.{placeOfTicket, ClosedPlaceIsFree}
 use Rattle.book.proofs.Passing.{passing, passing-permuted}
 use Rattle.book.proofs.Table.{holding, holding-pending}
@@ -33,13 +33,13 @@ use Rattle.book.proofs.Refinement.{final-append, alike-end}
 use Rattle.book.proofs.Tickets.{GivenHas, replaced-found, has-after}
 
 -- the number of exchanges that have a ticket, in a table and in a set that is alike
-holders-counted : (ticket : ℕ) (es : List Exchange) → length (holders ticket es) ≡ holding ticket es
-unfolding holders passing
+holders-counted : (ticket : ℕ) (es : List Exchange) → length (filtered (hasTicket ticket) es) ≡ holding ticket es
+unfolding filtered passing
 holders-counted ticket [] = refl
 holders-counted ticket (e ∷ es) =
     either (hasTicket ticket e) (λ t. rw (t, holders-counted ticket es)) (λ t. rw t (holders-counted ticket es))
 
-holding-told : (ticket : ℕ) (g : Gateway) (b : Book) → Alike g b → length (holders ticket (g .table)) ≡ holding ticket (b .pending)
+holding-told : (ticket : ℕ) (g : Gateway) (b : Book) → Alike g b → length (filtered (hasTicket ticket) (g .table)) ≡ holding ticket (b .pending)
 holding-told ticket g b r =
     holders-counted ticket (g .table)
     ∙ sym (holding-pending ticket (g .table))

@@ -4,15 +4,14 @@
 use Prim.Native.Nat.{ℕ, zero, suc, _+_, _≤_, _<_}
 use native.Mathlib.Nat.{not-suc-le-zero}
 use mathlib.Core.Path.{_≡_, refl, sym, ap, _∙_}
-use mathlib.Core.Bool.{true, false, not}
+use mathlib.Core.Bool.{false, not}
 use mathlib.Core.List.{List, [], _∷_, Perm, List·Permᴰ, List·Permᴰ·nil, List·Permᴰ·cons, List·Permᴰ·trans, Permᴰ·append-left}
 use native.Mathlib.Omega.{arith}
 use borrow.Author.Tests.{eqb-true, eqb-false, eq-eqb}
 use lib.Dec.{eqb}
 use lib.ListN.{length}
-use Rattle.wire.specs.Search.{anyPasses}
+use Rattle.wire.specs.Search.{anyPasses, filtered}
 use Rattle.wire.proofs.Booleans.{either, true-or-false}
-use Rattle.exchange.specs.declared.Exchange.{Exchange}
 use Rattle.request.specs.Request.{fieldsOf}
 use Rattle.exchange.specs.Exchange.{isFree, exchangeOf, asked}
 use Rattle.exchange.specs.Steps.{Step}
@@ -20,7 +19,7 @@ use Rattle.exchange.proofs.Steps.{accepted-pending}
 use Rattle.gateway.specs.Registry.{Registry}
 use Rattle.gateway.specs.Calls.{Call, admit, retire, onTicket, reporting}
 use Rattle.book.specs.Book.{Book, freshBook, bookDoes}
-use Rattle.book.specs.History.{Event, event, trace, final, filtered, admissionsOf}
+use Rattle.book.specs.History.{Event, event, trace, final, ticketsOf}
 use Rattle.book.specs.Demand3.{struck, isOn, withOwnCalls, movedUp, callsOf}
 use Rattle.book.proofs.Pending.{asked-other, exchange-behind}
 use Rattle.book.proofs.Accepted.{numberOf, given}
@@ -56,7 +55,7 @@ module _ (all : List Event) (c : Book) where
     -- a key retirement has no calls of its own
     sort-retire : (id : ℕ) → numberOf b (retire id) ≡ 0 → Rest b (told (retire id) ∷ events) → Run (given b (retire id) .state) events c
         → CanSort events → Sorted b c (withOwnCalls all (inOrder (told (retire id) ∷ events))) (told (retire id) ∷ events)
-    unfolding withOwnCalls filtered admissionsOf
+    unfolding withOwnCalls filtered ticketsOf
     sort-retire id e rest r sort =
         let s = sort (given b (retire id) .state) (record { old = rest .old; new = rest .new }) r in
         rw (on-none all)
@@ -96,7 +95,7 @@ module _ (all : List Event) (c : Book) where
       -- an admission, its own calls behind it, and then the others in their order
       sort-admit : numberOf b (admit request info) ≡ 0 → Rest b (told (admit request info) ∷ events) → Run opened events c → CanSort others
           → Sorted b c (withOwnCalls all (inOrder (told (admit request info) ∷ events))) (told (admit request info) ∷ events)
-      unfolding withOwnCalls filtered admissionsOf
+      unfolding withOwnCalls filtered ticketsOf
       sort-admit e rest r sort =
           let p = pull (ticket ∷ []) opened c events (λ t on. omega (arith, among-one ticket t on)) r in
           let s = sort (p .between) (rest-others rest p) (p .rest) in

@@ -5,13 +5,13 @@ use mathlib.Core.Path.{_≡_, refl, _∙_}
 use mathlib.Core.Bool.{true, false, not}
 use mathlib.Core.List.{List, [], _∷_}
 use native.Mathlib.Omega.{arith}
-use Rattle.wire.specs.Search.{among}
+use Rattle.wire.specs.Search.{among, filtered}
 use Rattle.wire.proofs.Booleans.{either, true-or-false}
 use Rattle.exchange.specs.Exchange.{exchangeOf}
 use Rattle.exchange.specs.Steps.{next}
 use Rattle.gateway.specs.Calls.{Call, admit, retire, onTicket, reporting}
 use Rattle.book.specs.Book.{Book}
-use Rattle.book.specs.History.{Event, filtered}
+use Rattle.book.specs.History.{Event}
 use Rattle.book.specs.Demand3.{isOn}
 use Rattle.book.proofs.Pending.{next-other, exchange-beside}
 use Rattle.book.proofs.Accepted.{given}

@@ -4,6 +4,7 @@ use Prim.Native.Nat.{ℕ}
 use mathlib.Core.Bool.{true}
 use mathlib.Core.Path.{_≡_, refl}
 use mathlib.Core.List.{List, [], _∷_, _++_, map, List·Permᴰ·nil}
+use Rattle.wire.specs.Search.{filtered}
 use Rattle.wire.proofs.Booleans.{either}
 use Rattle.keylist.specs.Layout.{Configuration, good, bad, parse, Result}
 use Rattle.keys.specs.declared.Keys.{Keys}
@@ -13,7 +14,7 @@ use Rattle.keys.specs.Keys.{freshKey, keysOf}
 use Rattle.gateway.specs.declared.Gateway.{Gateway}
 use Rattle.gateway.specs.Registry.{Registry, capHolds, withCap, registryFrom}
 use Rattle.gateway.specs.Gateway.{emptyGateway, gatewayFrom, freshGateway, gatewayDoes}
-use Rattle.gateway.specs.View.{registryOf, pendingIn}
+use Rattle.gateway.specs.View.{registryOf}
 use Rattle.gateway.specs.Calls.{Call, Done}
 use Rattle.book.specs.Book.{Book, freshBook, bookDoes}
 use Rattle.book.specs.History.{trace, final, gatewayAfter}
@@ -25,7 +26,7 @@ use Rattle.book.proofs.Refining.{Alike, same-answer, same-buffer, alike
 -- with no exchange pending they are alike where their heads are
 empty-alike : (cap : ℕ) (keys : Keys) (registry : Registry) → Sound (record { registry = registry; pending = [] })
     → registryOf (emptyGateway cap keys) ≡ registry → Alike (emptyGateway cap keys) (record { registry = registry; pending = [] })
-unfolding pendingIn
+unfolding filtered
 empty-alike cap keys registry s e = record { sound = s; registry = e; places = refl; pending = List·Permᴰ·nil }
 
 -- after setup: refused, accepted, and either

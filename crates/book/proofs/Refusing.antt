@@ -2,16 +2,17 @@
 -- Assumes nothing.
 use mathlib.Core.Path.{_≡_, refl, sym, _∙_}
 use mathlib.Core.List.{List, []}
-use Prim.Native.Nat.{ℕ}
+use Prim.Native.Nat.{ℕ, zero, suc}
 use native.Mathlib.Omega.{arith}
-use Rattle.wire.specs.Refusals.{IsRefused}
+use lib.ListN.{replicate}
+use Rattle.wire.specs.Search.{filtered}
 use Rattle.wire.proofs.Numbers.{unless-refused}
+use Rattle.wire.specs.declared.refusal.Refusal.{Refusal}
 use Rattle.keylist.specs.Layout.{Configuration, Result, good, bad}
-use Rattle.exchange.specs.Exchange.{exchangeOf}
+use Rattle.exchange.specs.Exchange.{free, exchangeOf}
 use Rattle.keys.proofs.Views.{stored-view}
 use Rattle.gateway.specs.declared.Gateway.{Gateway}
-use Rattle.gateway.specs.declared.SetupAnswer.{SetupAnswer}
-use Rattle.gateway.specs.Registry.{setup, setupAnswer}
+use Rattle.gateway.specs.Registry.{tableSize, setup}
 use Rattle.gateway.specs.View.{registryOf, pendingIn}
 use Rattle.gateway.specs.Gateway.{gatewayFrom, nextTicket, gatewayDoes, gatewayAdmitNumber, gatewayRetireNumber}
 use Rattle.gateway.specs.Calls.{Call, admit, retire, onTicket, reporting, number}
@@ -36,12 +37,17 @@ refused-call g (onTicket ticket step) h =
     (sym (unless-refused _ _ g refuses), sym (unless-refused _ _ (step .salt) refuses))
 refused-call g reporting h = absurd (h refl)
 
+-- free places hold nothing that is pending
+none-pending : (n : ℕ) → pendingIn (replicate n free) ≡ []
+unfolding filtered
+none-pending zero = refl
+none-pending (suc n) = none-pending n
+
 -- a refused setup
-refused-setup : (cap : ℕ) (read : Result (List Configuration)) → IsRefused SetupAnswer.Refused (setupAnswer read)
+refused-setup : (cap : ℕ) (read : Result (List Configuration)) (r : Refusal) → read ≡ bad r
     → (registryOf (gatewayFrom cap read) ≡ record { cap = 1; lastTicket = 0; keys = [] }) × (pendingIn (gatewayFrom cap read .table) ≡ [])
-unfolding pendingIn
-refused-setup cap (good cs) h = absurd (let z : _≡_ {A = ℕ} 0 1 = cc (h .1) in omega arith)
-refused-setup cap (bad r) h = (rw (stored-view []), refl)
+refused-setup cap (good cs) r e = absurd (let z : _≡_ {A = ℕ} 0 1 = cc e in omega arith)
+refused-setup cap (bad s) r e = (rw (stored-view []), none-pending tableSize)
 
 pub refusal-changes-nothing : RefusalChangesNothing
-refusal-changes-nothing = record { ofCall = refused-call; ofSetup = λ list cap h. refused-setup cap (setup list cap) h }
+refusal-changes-nothing = record { ofCall = refused-call; ofSetup = λ list cap r e. refused-setup cap (setup list cap) r e }

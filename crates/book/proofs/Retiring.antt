@@ -28,9 +28,9 @@ use Rattle.gateway.specs.Gateway.{gatewayDoes}
 use Rattle.gateway.specs.Calls.{Call, admit, retire, onTicket, reporting, ofStep, number}
 use Rattle.gateway.proofs.Places.{own-ticket}
 use Rattle.book.specs.Book.{Book, freshBook, setIsFull, replaced, bookStepped, bookAdmitNumber, bookRetireNumber, bookStepNumber, bookDoes}
-use Rattle.book.specs.History.{final, eventAfter, Accepts}
+use Rattle.book.specs.History.{final, Accepts}
 use Rattle.book.specs.Demand3.{bookAfter}
-use Rattle.book.specs.Retirement.{RetirementHolds}
+use Rattle.book.specs.Retirement.{RetirementHolds, eventAfter}
 use Rattle.book.proofs.Numbers.{admit-number, retire-number}
 use Rattle.book.proofs.Accepting.{unless-kept}
 use Rattle.book.proofs.Pending.{asked-other, next-other, exchange-behind, exchange-beside}

@@ -6,7 +6,8 @@ use borrow.Author.Tests.{eqb-true}
 use Rattle.wire.proofs.Booleans.{either}
 use Rattle.gateway.specs.Calls.{Call, Done}
 use Rattle.book.specs.Book.{Book, bookDoes}
-use Rattle.book.specs.History.{Event, event, trace, final, filtered}
+use Rattle.book.specs.History.{Event, event, trace, final}
+use Rattle.wire.specs.Search.{filtered}
 use Rattle.book.specs.Demand3.{isKept, struck, callsOf}
 use Rattle.book.proofs.Accepted.{numberOf, given, does-given, kept-number, refused-stays}
 

@@ -10,7 +10,7 @@ use borrow.Author.Tests.{lt-leb, eqb-true, ne-eqb}
 use lib.Dec.{eqb, leb, leb·suc-suc}
 use lib.ListN.{length, getD, set}
 use Rattle.wire.specs.Tests.{pick}
-use Rattle.wire.specs.Search.{firstPlace, anyPasses}
+use Rattle.wire.specs.Search.{firstPlace, anyPasses, filtered}
 use Rattle.wire.proofs.Booleans.{either, true-or-false, and-right, and-false}
 use Rattle.exchange.specs.declared.Exchange.{Exchange}
 use Rattle.exchange.specs.Exchange.{free, isFree, hasTicket, exchangeOf}
@@ -64,7 +64,7 @@ found-permuted ticket (List·Permᴰ·trans d f) h =
 
 -- the free places of a table do not count
 pub found-pending : (ticket : ℕ) (table : List Exchange) → exchangeOf ticket (pendingIn table) ≡ exchangeOf ticket table
-unfolding pendingIn firstPlace
+unfolding filtered firstPlace
 found-pending ticket [] = refl
 found-pending ticket (e ∷ es) =
     either (isFree e)
@@ -72,7 +72,7 @@ found-pending ticket (e ∷ es) =
     (λ f. rw f (either (eqb (e .ticket .0) ticket) (λ t. rw (f, t)) (λ t. rw (f, t) (found-pending ticket es))))
 
 pub holding-pending : (ticket : ℕ) (table : List Exchange) → holding ticket (pendingIn table) ≡ holding ticket table
-unfolding pendingIn passing
+unfolding filtered passing
 holding-pending ticket [] = refl
 holding-pending ticket (e ∷ es) =
     either (isFree e) (λ f. rw f (holding-pending ticket es)) (λ f. rw (f, f, holding-pending ticket es))
@@ -129,7 +129,7 @@ holding-replaced other ticket new (e ∷ es) h =
 -- what stands in the place of the exchange that has the ticket, in table and set
 pub replaced-in-table : (ticket : ℕ) (new : Exchange) (table : List Exchange) → holding ticket table ≤ 1
     → pendingIn (set table (firstPlace (hasTicket ticket) table) new) ≡ replaced ticket new (pendingIn table)
-unfolding pendingIn firstPlace replaced passing
+unfolding filtered firstPlace replaced passing
 replaced-in-table ticket new [] h = refl
 replaced-in-table ticket new (e ∷ es) h =
     either (isFree e)
@@ -144,7 +144,7 @@ replaced-in-table ticket new (e ∷ es) h =
 -- an admission: the new exchange in a place that was free, or at the end of the set
 pub admitted-in-table : (new : Exchange) (table : List Exchange) (place : ℕ) → isFree new ≡ false → place < length table
     → isFree (getD table place free) ≡ true → List·Permᴰ (pendingIn (set table place new)) (pendingIn table ++ new ∷ [])
-unfolding pendingIn
+unfolding filtered
 admitted-in-table new [] place n inside f = absurd (not-suc-le-zero inside)
 admitted-in-table new (e ∷ es) zero n inside f = rw (f, n) (first-to-the-end new (pendingIn es))
 admitted-in-table new (e ∷ es) (suc place) n inside f =
@@ -153,14 +153,14 @@ admitted-in-table new (e ∷ es) (suc place) n inside f =
 
 -- no more are pending than there are places
 pending-length : (table : List Exchange) → length (pendingIn table) ≤ length table
-unfolding pendingIn
+unfolding filtered
 pending-length [] = omega arith
 pending-length (e ∷ es) =
     either (isFree e) (λ f. rw f (omega (arith, pending-length es))) (λ f. rw f (omega (arith, pending-length es)))
 
 -- no place is free where there are as many pending exchanges as places
 pub full-alike : (table : List Exchange) → isFull table ≡ leb (length table) (length (pendingIn table))
-unfolding pendingIn anyPasses
+unfolding filtered anyPasses
 full-alike [] = refl
 full-alike (e ∷ es) =
     either (isFree e)

@@ -6,14 +6,14 @@ use mathlib.Core.List.{List, [], _∷_, _++_, map}
 use lib.Dec.{eqb, ltb}
 use lib.ListN.{length}
 use Rattle.wire.specs.Tests.{_and_}
-use Rattle.wire.specs.Search.{anyPasses}
+use Rattle.wire.specs.Search.{anyPasses, filtered}
 use Rattle.keylist.specs.Layout.{mostConfigurations}
 use Rattle.request.specs.Request.{keyIdOf}
 use Rattle.keys.specs.Keys.{Key}
 use Rattle.gateway.specs.Registry.{Registry, mostUses}
 use Rattle.gateway.specs.View.{registryOf}
 use Rattle.gateway.specs.Calls.{Call, admit, retire, onTicket, reporting}
-use Rattle.book.specs.History.{Event, filtered, isAccepted, ticketsOf, gatewayTrace, gatewayAfter}
+use Rattle.book.specs.History.{Event, isAccepted, ticketsOf, gatewayTrace, gatewayAfter}
 
 -- a request to admit that names the key
 abbrev pub namesKey : ℕ → Call → Bool

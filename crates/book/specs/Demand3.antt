@@ -4,11 +4,11 @@ use mathlib.Core.Bool.{Bool, true, false, not}
 use mathlib.Core.Path.{_≡_}
 use mathlib.Core.List.{List, [], _∷_, _++_, map, Perm}
 use Rattle.wire.specs.Tests.{_and_}
-use Rattle.wire.specs.Search.{among}
+use Rattle.wire.specs.Search.{among, filtered}
 use Rattle.gateway.specs.View.{registryOf, pendingIn}
 use Rattle.gateway.specs.Calls.{Call, admit, retire, onTicket, reporting, Answer}
 use Rattle.book.specs.Book.{Book, freshBook, bookDoes}
-use Rattle.book.specs.History.{Event, trace, final, filtered, gatewayTrace, gatewayAfter, isAccepted, ticketsOf}
+use Rattle.book.specs.History.{Event, trace, final, gatewayTrace, gatewayAfter, isAccepted, ticketsOf}
 
 abbrev pub isReport : Call → Bool
 isReport (admit request info) = false

@@ -2,12 +2,10 @@
 use Prim.Native.Nat.{ℕ}
 use mathlib.Core.Bool.{Bool}
 use mathlib.Core.Path.{_≡_}
-use mathlib.Core.List.{List, [], _∷_, map}
+use mathlib.Core.List.{List, [], _∷_}
 use lib.Dec.{eqb}
-use Rattle.wire.specs.Tests.{pick}
 use Rattle.gateway.specs.declared.Gateway.{Gateway}
 use Rattle.gateway.specs.declared.AdmitAnswer.{AdmitAnswer}
-use Rattle.gateway.specs.declared.admission.Admission.{Admission}
 use Rattle.gateway.specs.Gateway.{freshGateway, gatewayDoes}
 use Rattle.gateway.specs.Calls.{Call, Answer, Done, number, ofAdmit, ofRetire, ofStep, ofReport}
 
@@ -29,11 +27,6 @@ module _ {State : Type 0} (does : State → Call → Done State) where
   final s [] = s
   final s (call ∷ calls) = final (does s call .state) calls
 
--- the events that pass a test, in their order
-unfoldable pub filtered : (Event → Bool) → List Event → List Event
-filtered test [] = []
-filtered test (e ∷ es) = pick (test e) (e ∷ filtered test es) (filtered test es)
-
 -- from the gateway that setup handed back, after a refused setup too
 abbrev pub gatewayTrace : List ℕ → ℕ → List Call → List Event
 gatewayTrace list cap calls = trace gatewayDoes (freshGateway list cap) calls
@@ -41,12 +34,9 @@ gatewayTrace list cap calls = trace gatewayDoes (freshGateway list cap) calls
 abbrev pub gatewayAfter : List ℕ → ℕ → List Call → Gateway
 gatewayAfter list cap calls = final gatewayDoes (freshGateway list cap) calls
 
--- and from what they reached: what one more call gives, its answer, and that it is accepted
-abbrev pub eventAfter : List ℕ → ℕ → List Call → Call → Event
-eventAfter list cap calls call = event call (gatewayDoes (gatewayAfter list cap calls) call)
-
+-- and from what they reached: the answer to one more call, and that it is accepted
 abbrev pub answerAfter : List ℕ → ℕ → List Call → Call → Answer
-answerAfter list cap calls call = eventAfter list cap calls call .answer
+answerAfter list cap calls call = gatewayDoes (gatewayAfter list cap calls) call .answer
 
 abbrev pub Accepts : List ℕ → ℕ → List Call → Call → Type 0
 Accepts list cap calls call = number (answerAfter list cap calls call) ≡ 0
@@ -55,14 +45,10 @@ Accepts list cap calls call = number (answerAfter list cap calls call) ≡ 0
 abbrev pub isAccepted : Event → Bool
 isAccepted e = eqb (number (e .answer)) 0
 
--- the admission that an answer gives; none where it is not that of an accepted admit
-unfoldable pub admissionsOf : Answer → List Admission
-admissionsOf (ofAdmit (AdmitAnswer.Admitted a)) = a ∷ []
-admissionsOf (ofAdmit (AdmitAnswer.Refused r)) = []
-admissionsOf (ofRetire r) = []
-admissionsOf (ofStep r) = []
-admissionsOf (ofReport r) = []
-
--- its ticket
-abbrev pub ticketsOf : Answer → List ℕ
-ticketsOf answer = map (λ (a : Admission). a .ticket .0) (admissionsOf answer)
+-- the ticket that an answer gives; none where it is not that of an accepted admit
+unfoldable pub ticketsOf : Answer → List ℕ
+ticketsOf (ofAdmit (AdmitAnswer.Admitted a)) = a .ticket .0 ∷ []
+ticketsOf (ofAdmit (AdmitAnswer.Refused r)) = []
+ticketsOf (ofRetire r) = []
+ticketsOf (ofStep r) = []
+ticketsOf (ofReport r) = []

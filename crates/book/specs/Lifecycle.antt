@@ -5,8 +5,7 @@ use mathlib.Core.Bool.{true}
 use mathlib.Core.Path.{_≡_}
 use mathlib.Core.List.{List, [], _∷_, _++_}
 use lib.ListN.{length}
-use Rattle.wire.specs.Tests.{pick}
-use Rattle.exchange.specs.declared.Exchange.{Exchange}
+use Rattle.wire.specs.Search.{filtered}
 use Rattle.exchange.specs.Exchange.{hasTicket}
 use Rattle.exchange.specs.declared.Move.{Move}
 use Rattle.exchange.specs.Steps.{Step, closes}
@@ -14,15 +13,10 @@ use Rattle.gateway.specs.View.{registryOf}
 use Rattle.gateway.specs.Calls.{Call, onTicket, number, unprotectedStatus}
 use Rattle.book.specs.History.{gatewayAfter, answerAfter, Accepts}
 
--- the exchanges that have the ticket
-unfoldable pub holders : ℕ → List Exchange → List Exchange
-holders ticket [] = []
-holders ticket (e ∷ es) = pick (hasTicket ticket e) (e ∷ holders ticket es) (holders ticket es)
-
 pub record Lifecycle (list : List ℕ) (cap : ℕ) (calls : List Call) (ticket : ℕ) : Type 0 where
   -- no two pending exchanges have one ticket, and none has a ticket that was not given
-  pub oneHolder : length (holders ticket (gatewayAfter list cap calls .table)) ≤ 1
-  pub given : registryOf (gatewayAfter list cap calls) .lastTicket < ticket → holders ticket (gatewayAfter list cap calls .table) ≡ []
+  pub oneHolder : length (filtered (hasTicket ticket) (gatewayAfter list cap calls .table)) ≤ 1
+  pub given : registryOf (gatewayAfter list cap calls) .lastTicket < ticket → filtered (hasTicket ticket) (gatewayAfter list cap calls .table) ≡ []
   -- "later ones only sealed": after an opening, whatever comes between, no call on the ticket has an unprotected answer
   pub afterOpening : (opening : Step) (n : ℕ) (between : List Call) (later : Step)
       → opening .kind ≡ Move.Open n → Accepts list cap calls (onTicket ticket opening)

@@ -6,8 +6,10 @@ use mathlib.Core.Bool.{true, false}
 use mathlib.Core.List.{List, [], _∷_, _++_}
 use lib.ListN.{length}
 use Rattle.wire.specs.Tests.{pick}
-use Rattle.wire.specs.Refusals.{unlessRefused, IsRefused}
+use Rattle.wire.specs.Refusals.{unlessRefused}
+use Rattle.wire.specs.declared.refusal.Refusal.{Refusal}
 use Rattle.wire.specs.Texts.{infoLength, longestRequest}
+use Rattle.keylist.specs.Layout.{bad}
 use Rattle.algorithms.specs.Sizes.{knownKem, knownKdf, knownAead, shortestRequest}
 use Rattle.exchange.specs.declared.Exchange.{Exchange}
 use Rattle.request.specs.Request.{keyIdOf, kemOf, kdfOf, aeadOf}
@@ -15,8 +17,7 @@ use Rattle.exchange.specs.Exchange.{isFree}
 use Rattle.exchange.specs.Steps.{fails}
 use Rattle.keys.specs.Keys.{Key}
 use Rattle.gateway.specs.declared.Gateway.{Gateway}
-use Rattle.gateway.specs.declared.SetupAnswer.{SetupAnswer}
-use Rattle.gateway.specs.Registry.{setup, setupAnswer, statusOf}
+use Rattle.gateway.specs.Registry.{setup, statusOf}
 use Rattle.gateway.specs.Gateway.{freshGateway, gatewayDoes}
 use Rattle.gateway.specs.View.{registryOf, pendingIn}
 use Rattle.gateway.specs.Calls.{Call, admit, retire, onTicket, reporting, number, unprotectedStatus}
@@ -34,7 +35,7 @@ lent reporting = []
 pub record RefusalChangesNothing : Type 0 where
   pub ofCall : (g : Gateway) (call : Call) → (number (gatewayDoes g call .answer) ≡ 0 → ⊥)
       → (gatewayDoes g call .state ≡ g) × (gatewayDoes g call .buffer ≡ lent call)
-  pub ofSetup : (list : List ℕ) (cap : ℕ) → IsRefused SetupAnswer.Refused (setupAnswer (setup list cap))
+  pub ofSetup : (list : List ℕ) (cap : ℕ) (r : Refusal) → setup list cap ≡ bad r
       → (registryOf (freshGateway list cap) ≡ record { cap = 1; lastTicket = 0; keys = [] }) × (pendingIn (freshGateway list cap .table) ≡ [])
 
 -- Demand 2: "An exchange is admitted exactly when its request is well formed, names a live key with its KEM and a known pair it

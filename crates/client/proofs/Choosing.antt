@@ -9,7 +9,8 @@ use borrow.Author.Tests.{ltb-true, ltb-false}
 use lib.Dec.{eqb, ltb}
 use lib.ListN.{length}
 use Rattle.wire.specs.Search.{anyPasses, among}
-use Rattle.wire.specs.Refusals.{refused, IsRefused}
+use Rattle.wire.specs.Refusals.{refused}
+use Rattle.keylist.specs.Stated.{IsRefused}
 use Rattle.wire.specs.declared.refusal.Refusal.{Refusal}
 use Rattle.wire.proofs.Matches.{any-first}
 use Rattle.wire.proofs.Booleans.{either, true-or-false, and-left, and-right, and-false}

@@ -13,7 +13,7 @@ use Rattle.wire.proofs.Booleans.{either}
 use Rattle.algorithms.specs.Sizes.{knownAead, responseNonceLength, nonceLength, tagLength}
 use Rattle.client.specs.declared.split.Parts.{Parts}
 use Rattle.client.specs.Split.{splitRefusal, splitAnswer, partsOf, noncePart, ciphertextPart, PartsEmptyOnRefusal}
-use Rattle.wire.specs.Refusals.{IsRefused}
+use Rattle.keylist.specs.Stated.{IsRefused}
 
 meets : (refusal nonceEnd at : ℕ) → partsOf refusal nonceEnd ≡ Parts.NonceEnd at → (refusal ≡ 0) × (nonceEnd ≡ at)
 meets zero nonceEnd at e = (refl, cc)

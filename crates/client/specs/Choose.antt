@@ -7,7 +7,8 @@ use lib.Dec.{eqb}
 use lib.ListN.{length, getD}
 use Rattle.wire.specs.Tests.{pick, _and_}
 use Rattle.wire.specs.Search.{firstPlace, anyPasses, among}
-use Rattle.wire.specs.Refusals.{refused, IsRefused}
+use Rattle.wire.specs.Refusals.{refused}
+use Rattle.keylist.specs.Stated.{IsRefused}
 use Rattle.algorithms.specs.Sizes.{knownKem, knownPair}
 use Rattle.keylist.specs.declared.Pair.{Pair}
 use Rattle.keylist.specs.Layout.{Configuration, good, bad, keyStart, parse, isPair, Result}

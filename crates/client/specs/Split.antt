@@ -6,7 +6,8 @@ use mathlib.Core.Bool.{not}
 use mathlib.Core.List.{List, [], _++_}
 use lib.Dec.{ltb}
 use lib.ListN.{length, take, drop}
-use Rattle.wire.specs.Refusals.{_when_otherwise_, refused, IsRefused}
+use Rattle.wire.specs.Refusals.{_when_otherwise_, refused}
+use Rattle.keylist.specs.Stated.{IsRefused}
 use Rattle.wire.specs.Texts.{longestPlain}
 use Rattle.algorithms.specs.Sizes.{knownAead, responseNonceLength, tagLength}
 use Rattle.client.specs.declared.split.Parts.{Parts}

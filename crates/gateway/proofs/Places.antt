@@ -9,7 +9,7 @@ use native.Mathlib.Omega.{arith}
 use borrow.Author.Tests.{eq-eqb, ne-eqb}
 use lib.Dec.{eqb}
 use lib.ListN.{length, getD, List·getD-eq-default}
-use Rattle.wire.specs.Search.{firstPlace}
+use Rattle.wire.specs.Search.{firstPlace, filtered}
 use Rattle.wire.proofs.Booleans.{either, and-false, true-or-false}
 use Rattle.wire.proofs.Matches.{first-at, first-none}
 use Rattle.exchange.specs.declared.Exchange.{Exchange}
@@ -52,5 +52,5 @@ module _ (ticket : ℕ) (table : List Exchange) where
 -- the pending exchanges of a table, one place and the rest
 pub pending-more : (e : Exchange) (es : List Exchange)
     → length (pendingIn (e ∷ es)) ≡ length (pendingIn (e ∷ [])) + length (pendingIn es)
-unfolding pendingIn
+unfolding filtered
 pending-more e es = either (isFree e) (λ f. rw f (sym (zero-add (length (pendingIn es))))) (λ f. rw f (omega arith))

@@ -1,6 +1,7 @@
 -- What a gateway holds, as 01 tells of it: cap, last ticket and keys, and the pending exchanges, table places aside.
-use mathlib.Core.List.{List, [], _∷_}
-use Rattle.wire.specs.Tests.{pick}
+use mathlib.Core.Bool.{not}
+use mathlib.Core.List.{List}
+use Rattle.wire.specs.Search.{filtered}
 use Rattle.exchange.specs.declared.Exchange.{Exchange}
 use Rattle.exchange.specs.Exchange.{isFree}
 use Rattle.keys.specs.Keys.{keysOf}
@@ -11,6 +12,5 @@ abbrev pub registryOf : Gateway → Registry
 registryOf g = record { cap = g .cap; lastTicket = g .«last_ticket» .0; keys = keysOf (g .keys) }
 
 -- the pending exchanges of a table
-unfoldable pub pendingIn : List Exchange → List Exchange
-pendingIn [] = []
-pendingIn (e ∷ es) = pick (isFree e) (pendingIn es) (e ∷ pendingIn es)
+abbrev pub pendingIn : List Exchange → List Exchange
+pendingIn table = filtered (λ e. not (isFree e)) table

@@ -7,7 +7,7 @@ use mathlib.Core.Option.{some}
 use lib.Dec.{eqb}
 use lib.ListN.{length}
 use Rattle.wire.specs.Search.{firstThat}
-use Rattle.wire.specs.Refusals.{IsRefused}
+use Rattle.wire.specs.declared.refusal.Refusal.{Refusal}
 use Rattle.algorithms.specs.Sizes.{publicKeyLength}
 use Rattle.keylist.specs.declared.KeyPlace.{KeyPlace}
 use Rattle.keylist.specs.Layout.{Configuration, good, parse}
@@ -19,6 +19,10 @@ PublicKeyExactly =
     (bytes : List ℕ) (id : ℕ) (cs : List Configuration) (c : Configuration)
     → parse bytes ≡ good cs → firstThat (λ d. eqb (d .keyId) id) cs ≡ some c
     → (keyPart bytes (keyPlaceIn id (parse bytes)) ≡ c .publicKey) × (length (c .publicKey) ≡ publicKeyLength (c .kem))
+
+-- the answer is a refusal: it is made so by the case that its type has for refusals
+abbrev pub IsRefused : {A : Type 0} → (Refusal → A) → A → Type 0
+IsRefused refusing answer = (r : Refusal) × (answer ≡ refusing r)
 
 -- "empty exactly on refusal"
 abbrev pub EmptyOnRefusal : Type 0

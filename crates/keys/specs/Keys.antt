@@ -65,23 +65,13 @@ reportOf key = record { id = record { 0 = key .id }; count = key .count; retired
 abbrev pub blankReport : KeyReport
 blankReport = record { id = record { 0 = 0 }; count = 0; retired = false }
 
--- the elements first, then blanks up to a length
-abbrev pub padded : {A : Type 0} → ℕ → A → List A → List A
-padded size blank xs = xs ++ replicate (size - length xs) blank
-
 abbrev pub storedReports : List Key → List KeyReport
-storedReports keys = padded mostConfigurations blankReport (map reportOf keys)
+storedReports keys = map reportOf keys ++ replicate (mostConfigurations - length (map reportOf keys)) blankReport
 
 -- the keys that a gateway holds: the first ones of its array, as many as it counts
 abbrev pub keyOf : KeyState → Key
 keyOf k =
-    record {
-      id = k .id .0;
-      kem = k .kem;
-      pairs = take (k .«pair_count») (k .pairs);
-      count = k .count;
-      retired = not (eqb (k .retired) 0);
-    }
+    record { id = k .id .0; kem = k .kem; pairs = take (k .«pair_count») (k .pairs); count = k .count; retired = not (eqb (k .retired) 0) }
 
 unfoldable pub keysOf : Keys → List Key
 keysOf keys = map keyOf (take (keys .count) (keys .list))

@@ -12,14 +12,14 @@ use lib.Seq.{length-take-le}
 use borrow.Author.Tests.{leb-true, eqb-true, ne-eqb}
 use Rattle.wire.specs.Tests.{pick, _and_}
 use Rattle.wire.specs.Search.{among}
-use Rattle.wire.specs.Bytes.{wordBytes, wordsBytes}
+use Rattle.wire.specs.Bytes.{wordBytes}
 use Rattle.wire.specs.Refusals.{badList}
-use Rattle.wire.proofs.Words.{words-length}
+use Rattle.listwriter.proofs.Words.{words-length}
 use Rattle.algorithms.specs.Sizes.{knownKem, publicKeyLength}
 use Rattle.keylist.specs.Layout.{good, bad, mostConfigurations, Result}
 use Rattle.keylist.proofs.LayoutLaws.{both, PairBytes, pair-bytes}
 use Rattle.keylist.proofs.Parsing.{no-refusal}
-use Rattle.listwriter.specs.Writer.{Fields, fields, first, noneLeft, configurationBytes}
+use Rattle.listwriter.specs.Writer.{Fields, fields, first, noneLeft, configurationBytes, wordsBytes}
 use Rattle.listwriter.specs.Helpers.{firstHolds}
 
 -- the first configuration

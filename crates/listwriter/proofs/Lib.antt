@@ -5,3 +5,4 @@ pub mod ReadAfterWrite
 pub mod WriteAfterRead
 pub mod FieldsWalk
 pub mod Writing
+pub mod Words

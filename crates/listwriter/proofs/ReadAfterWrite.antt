@@ -11,10 +11,10 @@ use lib.ListN.{length, getD, drop, take-append-drop, length-append, length-drop}
 use lib.Seq.{take-at, drop-at, drop-drop, getD-drop}
 use borrow.Author.Tests.{le-leb, lt-leb, eq-eqb, eqb-true}
 use Rattle.wire.specs.Tests.{pick, _and_}
-use Rattle.wire.specs.Bytes.{byteAt, wordAt, wordBytes, wordsBytes}
+use Rattle.wire.specs.Bytes.{byteAt, wordAt, wordBytes}
 use Rattle.wire.specs.Search.{firstPlace, among}
 use Rattle.wire.specs.Refusals.{badList}
-use Rattle.wire.proofs.Words.{words-length}
+use Rattle.listwriter.proofs.Words.{words-length}
 use Rattle.wire.proofs.Booleans.{true-or-false, and-left, and-right}
 use Rattle.algorithms.specs.Table.{table, rowOf}
 use Rattle.algorithms.specs.Sizes.{knownKem, publicKeyLength}
@@ -22,7 +22,7 @@ use Rattle.algorithms.proofs.Stated.{size-bounds}
 use Rattle.keylist.specs.Layout.{Configuration, good, bad, lengthAt, keyIdAt, kemAt, keyStart, keyEnd, pairBytesAt, pairsAt, pairsStart, configurationAt, layoutHolds, parseFrom, parse, mostConfigurations, Result}
 use Rattle.keylist.proofs.LayoutLaws.{both}
 use Rattle.keylist.proofs.Parsing.{no-refusal, parse-end}
-use Rattle.listwriter.specs.Writer.{Fields, noneLeft}
+use Rattle.listwriter.specs.Writer.{Fields, noneLeft, wordsBytes}
 use Rattle.listwriter.specs.Helpers.{firstHolds}
 use Rattle.listwriter.specs.Stated.{pairNumbers, idsOf, asFields, ReadAfterWrite}
 use Rattle.listwriter.proofs.FlatFields.{firstKem, firstKeyLength, firstKey, firstPairCount, firstPairs, behindFirst, firstLength, firstBytes, inFrontOf, encodeFrom, walk, same-fields, First, first-says, behindKey, firstLaid, first-laid, none-of, end-given}

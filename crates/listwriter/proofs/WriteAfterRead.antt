@@ -12,7 +12,8 @@ use lib.ListN.{length, drop, take-append-drop, length-append, length-drop, drop-
 use lib.Seq.{length-take-le, take-append-seam, drop-append-seam, drop-drop, drop-cons}
 use borrow.Author.Tests.{leb-true, le-leb, eq-eqb}
 use Rattle.wire.specs.Tests.{pick, _and_}
-use Rattle.wire.specs.Bytes.{byteAt, wordAt, wordBytes, wordsBytes, part}
+use Rattle.wire.specs.Bytes.{byteAt, wordAt, wordBytes, part}
+use Rattle.listwriter.specs.Writer.{wordsBytes}
 use Rattle.wire.specs.Search.{among}
 use Rattle.wire.specs.Refusals.{badList}
 use Rattle.wire.proofs.Booleans.{either, and-left, and-right}

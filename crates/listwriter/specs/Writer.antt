@@ -6,7 +6,7 @@ use mathlib.Core.List.{List, [], _∷_, _++_}
 use lib.Dec.{eqb, leb, ltb}
 use lib.ListN.{length, getD, take, drop}
 use Rattle.wire.specs.Tests.{pick, _and_}
-use Rattle.wire.specs.Bytes.{wordBytes, wordsBytes, withFront}
+use Rattle.wire.specs.Bytes.{wordBytes, withFront}
 use Rattle.wire.specs.Search.{among}
 use Rattle.wire.specs.Refusals.{badList, refused}
 use Rattle.algorithms.specs.Sizes.{knownKem, publicKeyLength}
@@ -47,6 +47,11 @@ cut (id ∷ ids) f =
     configuration id (first (f .kems)) keyLength (take keyLength (f .keys)) pairCount (take pairCount (f .pairs))
     ∷ cut ids
     (fields (drop 1 (f .kems)) (drop 1 (f .keyLengths)) (drop keyLength (f .keys)) (drop 1 (f .pairCounts)) (drop pairCount (f .pairs)))
+
+-- numbers one after the other, two bytes each
+abbrev pub wordsBytes : List ℕ → List ℕ
+wordsBytes [] = []
+wordsBytes (n ∷ ns) = wordBytes n ++ wordsBytes ns
 
 -- the layout's rules for one configuration: its KEM, the key bytes announced and there, the pair numbers announced and there
 abbrev pub fieldsHold : ℕ → ℕ → ℕ → ℕ → ℕ → Bool

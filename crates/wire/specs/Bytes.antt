@@ -15,11 +15,6 @@ wordAt bytes at = byteAt bytes at * 256 + byteAt bytes (at + 1)
 abbrev pub wordBytes : ℕ → List ℕ
 wordBytes n = n / 256 ∷ n % 256 ∷ []
 
--- numbers one after the other, two bytes each
-abbrev pub wordsBytes : List ℕ → List ℕ
-wordsBytes [] = []
-wordsBytes (n ∷ ns) = wordBytes n ++ wordsBytes ns
-
 -- the `count` elements from an offset, or as many as there are
 abbrev pub part : List ℕ → ℕ → ℕ → List ℕ
 part bytes at count = take count (drop at bytes)

@@ -2,7 +2,6 @@
 use Prim.Native.Nat.{ℕ, zero, suc}
 use mathlib.Core.Bool.{Bool, true, false}
 use mathlib.Core.List.{List}
-use mathlib.Core.Path.{_≡_}
 use Rattle.wire.specs.Bytes.{withFront}
 use Rattle.wire.specs.declared.refusal.Refusal.{Refusal}
 
@@ -28,7 +27,3 @@ unlessRefused (suc n) a b = b
 -- a buffer, by a refusal number: with 0 the bytes stand at its front, else it is as it was
 abbrev pub written : ℕ → List ℕ → List ℕ → List ℕ
 written number bytes buffer = unlessRefused number (withFront bytes buffer) buffer
-
--- the answer is a refusal: it is made so by the case that its type has for refusals
-abbrev pub IsRefused : {A : Type 0} → (Refusal → A) → A → Type 0
-IsRefused refusing answer = (r : Refusal) × (answer ≡ refusing r)

@@ -1,4 +1,4 @@
--- The first element of a list that passes a test, and its place.
+-- The elements of a list that pass a test, the first of them, and its place.
 use Prim.Native.Nat.{ℕ, suc}
 use mathlib.Core.Bool.{Bool, true, false}
 use mathlib.Core.List.{List, [], _∷_}
@@ -10,6 +10,11 @@ use Rattle.wire.specs.Tests.{pick}
 unfoldable pub firstPlace : {A : Type 0} → (A → Bool) → List A → ℕ
 firstPlace test [] = 0
 firstPlace test (x ∷ xs) = pick (test x) 0 (suc (firstPlace test xs))
+
+-- the elements that pass, in their order
+unfoldable pub filtered : {A : Type 0} → (A → Bool) → List A → List A
+filtered test [] = []
+filtered test (x ∷ xs) = pick (test x) (x ∷ filtered test xs) (filtered test xs)
 
 -- some element passes
 unfoldable pub anyPasses : {A : Type 0} → (A → Bool) → List A → Bool

@@ -1,8 +1,9 @@
 -- `listwriter::write_configuration` meets its contract: four writes, one behind the other, are one.
 -- Assumes nothing.
 use Rattle.wire.proofs.Writes.{overwritten-four}
-use Rattle.wire.proofs.Words.{words-length}
-use Rattle.wire.specs.Bytes.{wordBytes, wordsBytes}
+use Rattle.listwriter.proofs.Words.{words-length}
+use Rattle.wire.specs.Bytes.{wordBytes}
+use Rattle.listwriter.specs.Writer.{wordsBytes}
 use Prim.Native.Nat.{ℕ, _+_, _*_}
 use mathlib.Core.List.{List, _∷_, _++_}
 use mathlib.Core.Path.{_≡_, _∙_}

@@ -3,8 +3,9 @@
 use mathlib.Core.List.{List}
 use lib.Seq.{take-all, length-take-le}
 use Rattle.wire.proofs.Writes.{overwritten-none, overwritten-more}
-use Rattle.wire.proofs.Words.{words-length, words-one-more}
-use Rattle.wire.specs.Bytes.{wordsBytes, wordBytes}
+use Rattle.listwriter.proofs.Words.{words-length, words-one-more}
+use Rattle.wire.specs.Bytes.{wordBytes}
+use Rattle.listwriter.specs.Writer.{wordsBytes}
 use Rattle.wire.specs.Helpers.{overwritten}
 use mathlib.Core.Path.{_≡_, refl, sym, _∙_}
 use Prim.Native.Nat.{ℕ, _*_, _-_, _≤_}

@@ -6,6 +6,7 @@ use native.Mathlib.Omega.{arith}
 use native.Mathlib.Nat.{zero-add}
 use borrow.Author.Needs.{needs}
 use lib.ListN.{length, getD, drop, drop-of-length-le}
+use Rattle.wire.specs.Search.{filtered}
 use Rattle.gateway.specs.View.{pendingIn}
 use Rattle.gateway.specs.Registry.{tableSize}
 use mathlib.Core.List.{[], _∷_}
@@ -37,7 +38,7 @@ loop-again c =
     (omega arith, omega (arith, c .number .ensures .1), omega (arith, c .number .ensures .0, more, had))
 
 returns : tie.Need-returns Inv-loop μ-loop
-unfolding pendingIn
+unfolding filtered
 returns c =
     let l = c .before .loop in
     let table = c .before .before .args .t1 in

@@ -3,16 +3,16 @@
 use mathlib.Core.Path.{refl}
 use native.Mathlib.Omega.{arith}
 use borrow.Author.Needs.{needs}
-use Rattle.gateway.specs.View.{pendingIn}
+use Rattle.wire.specs.Search.{filtered}
 use Rattle.gateway.proofs.table.number.Statement.{statement}
 use Rattle.gateway.proofs.table.number.Tie as tie
 
 returns : tie.Need-returns
-unfolding pendingIn
+unfolding filtered
 returns c = rw (← c .before .is-free .ensures, c .if1 .taken) (refl, omega arith)
 
 returns-2 : tie.Need-returns-2
-unfolding pendingIn
+unfolding filtered
 returns-2 c = rw (← c .before .is-free .ensures, c .if1 .left) (refl, omega arith)
 
 pub number-spec : {M : Type 1} → statement M

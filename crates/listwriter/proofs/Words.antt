@@ -7,7 +7,8 @@ use native.Mathlib.Numerals.{add-one}
 use native.Mathlib.Omega.{arith}
 use lib.ListN.{length, getD, take}
 use lib.Seq.{take-suc}
-use Rattle.wire.specs.Bytes.{wordBytes, wordsBytes}
+use Rattle.wire.specs.Bytes.{wordBytes}
+use Rattle.listwriter.specs.Writer.{wordsBytes}
 
 pub words-append : (xs ys : List ℕ) → wordsBytes (xs ++ ys) ≡ wordsBytes xs ++ wordsBytes ys
 words-append [] ys = refl
