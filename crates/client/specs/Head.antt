@@ -34,6 +34,7 @@ pub record HeadDone : Type 0 where
   pub head : List ℕ
   pub info : List ℕ
 
+-- by the refusal number: both buffers written, or as they were
 unfoldable pub headDoes : ℕ → ℕ → ℕ → ℕ → List ℕ → List ℕ → List ℕ → HeadDone
 headDoes keyId kem kdf aead enc head info =
     let number = headRefusal kem kdf aead enc (length head) (length info) in
