@@ -10,7 +10,7 @@ use lib.Dec.{eqb, leb}
 use lib.ListN.{length, take, drop, length-append}
 use lib.Seq.{take-at, take-all, drop-at, take-append-seam, drop-append-seam}
 use borrow.Author.Tests.{le-ltb}
-use Rattle.wire.specs.Texts.{headLength, headBytes, requestLabel, infoLength, infoBytes, longestRequest, longestPlain}
+use Rattle.wire.specs.Texts.{ascii, headLength, headBytes, requestLabel, infoLength, infoBytes, longestRequest, longestPlain}
 use Rattle.wire.proofs.Booleans.{and-left, and-right}
 use Rattle.algorithms.specs.Sizes.{knownKem, knownAead, encLength, responseNonceLength, tagLength}
 use Rattle.client.specs.declared.head.HeadAnswer.{HeadAnswer}
@@ -47,7 +47,7 @@ module _ (keyId kem kdf aead size : ℕ) (enc head info ciphertext : List ℕ)
   head-holds = rw (told .0) (take-at front (drop (length front) head) size (omega (arith, told, fits)))
 
   info-holds : take infoLength (headDoes keyId kem kdf aead enc head info .info) ≡ infoBytes (headBytes keyId kem kdf aead)
-  unfolding headDoes requestLabel
+  unfolding ascii headDoes requestLabel
   info-holds = rw (told .0)
 
   -- what the gateway reads

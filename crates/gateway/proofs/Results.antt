@@ -13,7 +13,7 @@ use Rattle.wire.specs.Search.{firstPlace}
 use Rattle.wire.specs.Refusals.{_when_otherwise_, refused, unlessRefused}
 use Rattle.wire.specs.Bytes.{withFront}
 use Rattle.wire.specs.Helpers.{overwritten}
-use Rattle.wire.specs.Texts.{headLength, infoLength, infoBytes, requestLabel}
+use Rattle.wire.specs.Texts.{ascii, headLength, infoLength, infoBytes, requestLabel}
 use Rattle.wire.specs.declared.refusal.Refusal.{Refusal}
 use Rattle.wire.proofs.Matches.{any-by-place}
 use Rattle.wire.proofs.Writes.{front-first}
@@ -146,7 +146,7 @@ fields-only-accepted (suc q) cap keys f n rest = refl
 -- info at the front of its buffer
 pub info-written : (request info : List ℕ) → headLength ≤ length request → infoLength ≤ length info
     → overwritten info 0 (infoBytes (overwritten (replicate headLength 0) 0 request)) ≡ withFront (infoOf request) info
-unfolding requestLabel
+unfolding ascii requestLabel
 info-written request info h l =
     let size : length (infoOf request) ≡ infoLength = length-append requestLabel (take headLength request) ∙ rw (length-take headLength request) (omega arith) in
     rw (info-of request h) (front-first (infoOf request) info (omega (arith, size)))

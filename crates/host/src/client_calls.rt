@@ -2,7 +2,7 @@
 ghost use mathlib.Core.Path.{_≡_};
 ghost use lib.ListN.{length};
 ghost use Rattle.wire.specs.Refusals.{written};
-ghost use Rattle.wire.specs.Texts.{exporterContext};
+ghost use Rattle.wire.specs.Exporter.{exporterContext};
 ghost use Rattle.keylist.specs.Layout.{parse};
 ghost use Rattle.client.specs.Choose.{chooseFrom};
 ghost use Rattle.client.specs.Head.{headDoes};

@@ -6,7 +6,7 @@ use Prim.Native.Nat.{ℕ, zero, suc, _≤_}
 use lib.Dec.{ltb}
 use lib.ListN.{length}
 use Rattle.wire.specs.Refusals.{_when_otherwise_, refused}
-use Rattle.wire.specs.Texts.{exporterContext}
+use Rattle.wire.specs.Exporter.{exporterContext}
 use borrow.Author.Tests.{ltb-false, not-false}
 use Rattle.wire.proofs.Numbers.{not-refused}
 use Rattle.algorithms.specs.Sizes.{knownAead}

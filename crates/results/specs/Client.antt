@@ -4,7 +4,7 @@ use mathlib.Core.Bool.{not}
 use lib.Dec.{ltb}
 use lib.ListN.{length}
 use Rattle.wire.specs.Refusals.{_when_otherwise_, refused}
-use Rattle.wire.specs.Texts.{exporterContext}
+use Rattle.wire.specs.Exporter.{exporterContext}
 use Rattle.algorithms.specs.Sizes.{knownAead, secretLength}
 use Rattle.client.specs.declared.choose.Chosen.{Chosen}
 use Rattle.client.specs.declared.head.HeadAnswer.{HeadAnswer}

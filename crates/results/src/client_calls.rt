@@ -4,7 +4,7 @@ ghost use Prim.Native.Nat.{_-_};
 ghost use mathlib.Core.Bool.{true};
 ghost use lib.ListN.{length};
 ghost use Rattle.wire.specs.Refusals.{written};
-ghost use Rattle.wire.specs.Texts.{exporterContext};
+ghost use Rattle.wire.specs.Exporter.{exporterContext};
 ghost use Rattle.algorithms.specs.Sizes.{secretLength, knownAead};
 ghost use Rattle.results.specs.Client.{chooseResult, headResult, splitResult, exporterRefusal, exporterResult};
 use crate::outcome::NumberResult;

@@ -6,11 +6,11 @@ use Prim.Native.Nat.{ℕ}
 use native.Mathlib.Omega.{arith}
 use lib.ListN.{length, replicate, length-append}
 use Rattle.wire.specs.Helpers.{overwritten}
-use Rattle.wire.specs.Texts.{requestLabel, infoBytes}
+use Rattle.wire.specs.Texts.{ascii, requestLabel, infoBytes}
 use Rattle.wire.proofs.Writes.{front-first, front-more, front-whole}
 
 label-length : length requestLabel ≡ 22
-unfolding requestLabel
+unfolding ascii requestLabel
 label-length = refl
 
 pub info-parts : (head : List ℕ) → 7 ≡ length head

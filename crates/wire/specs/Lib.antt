@@ -4,4 +4,5 @@ pub mod Bytes
 pub mod Refusals
 pub mod Search
 pub mod Texts
+pub mod Exporter
 pub mod Helpers

@@ -1,5 +1,4 @@
--- RFC 9458's fixed texts: the seven bytes in front of a request, info and the exporter context; and the longest request and plain
--- response (01, "Layouts").
+-- RFC 9458's fixed texts: the seven bytes in front of a request, and info; and the longest request and plain response (01, "Layouts").
 use Prim.Native.Nat.{ℕ}
 use Prim.Native.Char.{code}
 use Prim.Native.String.{String, [] as end, _∷_ as _then_}
@@ -21,7 +20,6 @@ headBytes keyId kem kdf aead = keyId ∷ wordBytes kem ++ wordBytes kdf ++ wordB
 
 -- the 21 ASCII bytes and the zero byte that info begins with
 unfoldable pub requestLabel : List ℕ
-unfolding ascii
 requestLabel = ascii "message/bhttp request" ++ 0 ∷ []
 
 -- the length of info
@@ -31,11 +29,6 @@ infoLength = 29
 -- info, of the request's first 7 bytes
 abbrev pub infoBytes : List ℕ → List ℕ
 infoBytes head = requestLabel ++ head
-
--- the exporter context: 22 ASCII bytes
-unfoldable pub exporterContext : List ℕ
-unfolding ascii
-exporterContext = ascii "message/bhttp response"
 
 -- the most bytes of a request, and of a plain response
 abbrev pub longestRequest : ℕ

@@ -1,6 +1,7 @@
 // RFC 9458's fixed texts and what is made of them.
 ghost use mathlib.Core.Path.{_≡_};
-ghost use Rattle.wire.specs.Texts.{headBytes, infoBytes, exporterContext};
+ghost use Rattle.wire.specs.Texts.{headBytes, infoBytes};
+ghost use Rattle.wire.specs.Exporter.{exporterContext};
 use crate::bytes::overwrite;
 
 // The bytes of a request before enc: key id, KEM, KDF, AEAD.

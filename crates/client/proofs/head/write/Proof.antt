@@ -6,7 +6,7 @@ use Prim.Native.Nat.{_+_, _≤_}
 use native.Mathlib.Omega.{arith}
 use lib.ListN.{length}
 use borrow.Author.Needs.{needs}
-use Rattle.wire.specs.Texts.{headLength, requestLabel, infoBytes, headBytes, infoLength}
+use Rattle.wire.specs.Texts.{ascii, headLength, requestLabel, infoBytes, headBytes, infoLength}
 use Rattle.wire.proofs.Writes.{front-first, front-more}
 use Rattle.algorithms.specs.Sizes.{knownKem, encLength}
 use Rattle.client.specs.Head.{headDoes}
@@ -39,7 +39,7 @@ returns c =
     (head-refused number _ refuses, unless-refused number _ _ refuses, unless-refused number _ _ refuses)
 
 returns-2 : tie.Need-returns-2
-unfolding headDoes requestLabel
+unfolding ascii headDoes requestLabel
 returns-2 c =
     let a = passed c .before .before .before .before .before .args in
     let fits = accepted (passed c) in

@@ -6,7 +6,8 @@ use mathlib.Core.List.{List}
 use Prim.Native.Nat.{ℕ, _≤_}
 use lib.ListN.{length}
 use Rattle.wire.specs.Helpers.{overwritten}
-use Rattle.wire.specs.Texts.{ascii, exporterContext}
+use Rattle.wire.specs.Texts.{ascii}
+use Rattle.wire.specs.Exporter.{exporterContext}
 use Rattle.wire.proofs.Numbers.{unless-refused}
 use Rattle.wire.proofs.Writes.{front-first}
 use Rattle.algorithms.specs.Sizes.{knownAead}

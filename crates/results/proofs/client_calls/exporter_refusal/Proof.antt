@@ -1,7 +1,8 @@
 -- `results::client_calls::exporter_refusal` meets its contract.
 -- Assumes nothing.
 use borrow.Author.Tests.{not-true, not-false, lt-ltb, le-ltb}
-use Rattle.wire.specs.Texts.{ascii, exporterContext}
+use Rattle.wire.specs.Texts.{ascii}
+use Rattle.wire.specs.Exporter.{exporterContext}
 use Rattle.results.specs.Client.{exporterRefusal}
 use borrow.Author.Needs.{needs}
 use Rattle.results.proofs.client_calls.exporter_refusal.Statement.{statement}

@@ -1,6 +1,6 @@
 -- `wire::texts::info` meets its contract: the label and the head, one behind the other, fill the 29 bytes.
 -- Assumes nothing.
-use Rattle.wire.specs.Texts.{requestLabel}
+use Rattle.wire.specs.Texts.{ascii, requestLabel}
 use Rattle.wire.proofs.Info.{info-parts}
 use mathlib.Core.Path.{_≡_, _∙_}
 use lib.ListN.{length}
@@ -12,7 +12,7 @@ slice-aggregate-overwrite-4 : tie.Need-slice-aggregate-overwrite-4
 slice-aggregate-overwrite-4 c = search needs
 
 returns : tie.Need-returns
-unfolding requestLabel
+unfolding ascii requestLabel
 returns c =
     let head = c .before .before .before .before .before .before .before .before .args .t1 in
     let size : 7 ≡ length head = slice-aggregate-overwrite-4 (c .before .before) in
