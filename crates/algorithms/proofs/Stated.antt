@@ -20,7 +20,14 @@ use Rattle.algorithms.proofs.Rows.{of-row, every}
 
 pub sizes-of-the-paper : SizesOfThePaper
 unfolding encLength publicKeyLength keyLength rowOf table firstPlace
-sizes-of-the-paper = record { nenc = refl; npk = refl; shortest = refl; nk = refl; nonce = refl }
+sizes-of-the-paper =
+    record {
+      nenc = refl;
+      npk = refl;
+      shortest = refl;
+      nk = refl;
+      nonce = refl;
+    }
 
 -- the numbers of the rows of a kind, in order
 numbersOf : ℕ → List Row → List ℕ

@@ -10,4 +10,11 @@ use Rattle.keylist.specs.Layout.{configurationAt, layoutHolds, pairsAt, 
 
 pub list-edges : ListEdges
 unfolding ascii edgeList hex parse parseFrom layoutHolds configurationAt pairsAt knownKem publicKeyLength rowOf table firstPlace anyPasses requestLabel
-list-edges = record { bytes = refl; oneKey = refl; twice = refl; empty = refl; info = refl }
+list-edges =
+    record {
+      bytes = refl;
+      oneKey = refl;
+      twice = refl;
+      empty = refl;
+      info = refl;
+    }
