@@ -151,4 +151,7 @@ lifecycle-holds list cap calls ticket =
 
 pub closed-place-is-free : ClosedPlaceIsFree
 closed-place-is-free list cap calls ticket step accepted =
-    record { inside = place-inside list cap calls ticket step accepted; leftFree = place-free list cap calls ticket step accepted }
+    record {
+      inside = place-inside list cap calls ticket step accepted;
+      leftFree = place-free list cap calls ticket step accepted;
+    }
