@@ -5,7 +5,7 @@ use mathlib.Core.Bool.{Bool, true, false}
 use Prim.Native.Nat.{ℕ}
 use native.Mathlib.Omega.{arith}
 use Rattle.algorithms.specs.declared.Size.the-variants.{Bytes, Unknown}
-use Rattle.algorithms.specs.Helpers.{sizeOf}
+use Rattle.algorithms.specs.Answers.{sizeOf}
 
 -- bytes: the number is known, and that is its size
 pub known : (is : Bool) (size n : ℕ) → sizeOf is size ≡ Bytes n → (is ≡ true) × (size ≡ n)

@@ -45,14 +45,10 @@ publicKeyLength kem = rowOf kemKind kem .«public_key»
 unfoldable pub keyLength : ℕ → ℕ
 keyLength aead = rowOf aeadKind aead .key
 
--- head, enc and the tag of an empty ciphertext
+-- head, enc, and a ciphertext that is only its tag
 abbrev pub shortestRequest : ℕ → ℕ
 shortestRequest kem = headLength + encLength kem + tagLength
 
 -- max(Nn, Nk)
 abbrev pub responseNonceLength : ℕ → ℕ
 responseNonceLength aead = max nonceLength (keyLength aead)
-
--- the exported secret is as long as the response nonce
-abbrev pub secretLength : ℕ → ℕ
-secretLength aead = responseNonceLength aead

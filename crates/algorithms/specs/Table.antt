@@ -19,27 +19,27 @@ abbrev pub aeadKind : ℕ
 aeadKind = 3
 
 -- a row: its kind, its number, a KEM's Nenc and Npk, an AEAD's Nk
-abbrev pub row : ℕ → ℕ → ℕ → ℕ → ℕ → Row
-row kind number nenc npk nk = record { kind = kind; number = number; enc = nenc; «public_key» = npk; key = nk }
+abbrev pub tableRow : ℕ → ℕ → ℕ → ℕ → ℕ → Row
+tableRow kind number nenc npk nk = record { kind = kind; number = number; enc = nenc; «public_key» = npk; key = nk }
 
 unfoldable pub table : List Row
 table =
-    row kemKind 0x0010 65 65 0
-    ∷ row kemKind 0x0011 97 97 0
-    ∷ row kemKind 0x0012 133 133 0
-    ∷ row kemKind 0x0020 32 32 0
-    ∷ row kemKind 0x0021 56 56 0
-    ∷ row kdfKind 0x0001 0 0 0
-    ∷ row kdfKind 0x0002 0 0 0
-    ∷ row kdfKind 0x0003 0 0 0
-    ∷ row aeadKind 0x0001 0 0 16
-    ∷ row aeadKind 0x0002 0 0 32
-    ∷ row aeadKind 0x0003 0 0 32
+    tableRow kemKind 0x0010 65 65 0
+    ∷ tableRow kemKind 0x0011 97 97 0
+    ∷ tableRow kemKind 0x0012 133 133 0
+    ∷ tableRow kemKind 0x0020 32 32 0
+    ∷ tableRow kemKind 0x0021 56 56 0
+    ∷ tableRow kdfKind 0x0001 0 0 0
+    ∷ tableRow kdfKind 0x0002 0 0 0
+    ∷ tableRow kdfKind 0x0003 0 0 0
+    ∷ tableRow aeadKind 0x0001 0 0 16
+    ∷ tableRow aeadKind 0x0002 0 0 32
+    ∷ tableRow aeadKind 0x0003 0 0 32
     ∷ []
 
 -- what stands for the row of a number that is unknown
 abbrev pub noRow : Row
-noRow = row 0 0 0 0 0
+noRow = tableRow 0 0 0 0 0
 
 -- the row is that of the kind and the number
 abbrev pub isRow : ℕ → ℕ → Row → Bool

@@ -2,8 +2,8 @@
 ghost use mathlib.Core.Path.{_≡_};
 ghost use Prim.Native.Nat.{max};
 ghost use Rattle.algorithms.specs.Table.{isRow, rowOf, kemKind, kdfKind, aeadKind};
-ghost use Rattle.algorithms.specs.Sizes.{isKnown, knownKem, knownKdf, knownAead, knownPair, encLength, publicKeyLength, shortestRequest, keyLength, responseNonceLength, secretLength};
-ghost use Rattle.algorithms.specs.Helpers.{sizeOf};
+ghost use Rattle.algorithms.specs.Sizes.{isKnown, knownKem, knownKdf, knownAead, knownPair, encLength, publicKeyLength, shortestRequest, keyLength, responseNonceLength};
+ghost use Rattle.algorithms.specs.Answers.{sizeOf, secretLength};
 use wire::texts::HEAD_LENGTH;
 
 // A row of the table. A KEM has Nenc and Npk, an AEAD has Nk; what an algorithm does not have is 0.

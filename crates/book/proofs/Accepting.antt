@@ -13,7 +13,8 @@ use Rattle.request.specs.Request.{keyIdOf, fieldsOf}
 use Rattle.request.specs.Helpers.{requestRefusal}
 use Rattle.keys.specs.Keys.{Key, keyWith, retireRefusal}
 use Rattle.keys.proofs.Named.{retire-order}
-use Rattle.keys.specs.Helpers.{placeOfKey, keyAt, keyRefusal, retireRefusalAt}
+use Rattle.keys.specs.Helpers.{keyAt, keyRefusal, retireRefusalAt}
+use Rattle.keys.specs.Stored.{placeOfKey}
 use Rattle.gateway.specs.Registry.{Registry, admitRefusal}
 use Rattle.gateway.proofs.Deciding.{none-of-both, admit-order}
 use Rattle.book.proofs.Admitting.{usable}

@@ -8,10 +8,11 @@ use lib.Seq.{getD-set-same, getD-set-other}
 use Rattle.request.specs.Request.{keyIdOf, fieldsOf}
 use Rattle.exchange.specs.Exchange.{free, asked}
 use Rattle.keys.specs.Keys.{Key}
-use Rattle.keys.specs.Helpers.{placeOfKey, noKey, keyAt}
+use Rattle.keys.specs.Helpers.{noKey, keyAt}
+use Rattle.keys.specs.Stored.{placeOfKey}
 use Rattle.gateway.specs.declared.Gateway.{Gateway}
-use Rattle.gateway.specs.Gateway.{freshGateway, isFull, freePlace, nextTicket, gatewayDoes, gatewayAdmitNumber}
-use Rattle.gateway.specs.View.{registryOf}
+use Rattle.gateway.specs.Gateway.{freshGateway, freePlace, nextTicket, gatewayDoes, gatewayAdmitNumber}
+use Rattle.gateway.specs.View.{registryOf, isFull}
 use Rattle.gateway.specs.Calls.{admit, number}
 use Rattle.book.specs.Book.{Book, freshBook}
 use Rattle.book.specs.History.{gatewayAfter}

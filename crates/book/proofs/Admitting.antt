@@ -24,14 +24,14 @@ use Rattle.request.specs.Helpers.{requestRefusal}
 use Rattle.request.proofs.Requests.{accepted-request, request-accepted}
 use Rattle.exchange.specs.Exchange.{free, isFree}
 use Rattle.keys.specs.Keys.{Key, hasId, offers}
-use Rattle.keys.specs.Helpers.{placeOfKey, noKey, keyAt, keyRefusal}
+use Rattle.keys.specs.Helpers.{noKey, keyAt, keyRefusal}
 use Rattle.keylist.specs.Layout.{isPair}
 use Rattle.gateway.specs.declared.Gateway.{Gateway}
-use Rattle.gateway.specs.Gateway.{freePlace, isFull, gatewayAdmitNumber}
-use Rattle.gateway.specs.View.{registryOf}
+use Rattle.gateway.specs.Gateway.{freePlace, gatewayAdmitNumber}
+use Rattle.gateway.specs.View.{registryOf, isFull}
 use Rattle.gateway.proofs.Deciding.{none-of-both, both-none, admit-order}
 use Rattle.book.specs.OneCall.{IsElement, Admissible}
-use Rattle.keys.specs.Stored.{noPair}
+use Rattle.keys.specs.Stored.{noPair, placeOfKey}
 use Rattle.book.proofs.Placing.{place-inside, place-free}
 
 -- a negated test that fails, and one that holds

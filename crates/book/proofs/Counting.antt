@@ -14,11 +14,13 @@ use Rattle.wire.proofs.Booleans.{either, and-false}
 use Rattle.wire.proofs.Matches.{first-passes}
 use Rattle.request.specs.Request.{keyIdOf}
 use Rattle.keys.specs.Keys.{Key, hasId, withUse, withRetirement}
-use Rattle.keys.specs.Helpers.{placeOfKey, noKey, keyAt}
+use Rattle.keys.specs.Helpers.{noKey, keyAt}
+use Rattle.keys.specs.Stored.{placeOfKey}
 use Rattle.keys.proofs.Named.{with-key}
 use Rattle.gateway.specs.Registry.{admitAnswer}
 use Rattle.gateway.specs.Calls.{Call, admit, retire, onTicket, reporting, Answer, ofAdmit, number}
-use Rattle.book.specs.Book.{Book, setIsFull, bookStepped, bookDoes, bookAdmitted, bookRetired, bookAdmitNumber, bookRetireNumber, bookStepNumber}
+use Rattle.book.specs.Book.{Book, bookStepped, bookDoes, bookAdmitted, bookRetired, bookAdmitNumber, bookRetireNumber, bookStepNumber}
+use Rattle.book.proofs.Numbers.{setIsFull}
 use Rattle.book.specs.History.{Event, event, trace, final, isAccepted, ticketsOf}
 use Rattle.wire.specs.Search.{filtered}
 use mathlib.Core.Bool.{Bool, false}

@@ -1,26 +1,31 @@
 -- A key's count is the number of admissions it was given, the tickets are 1, 2, 3 and on, and nothing wraps.
 -- Assumes nothing.
-use Prim.Native.Nat.{ℕ}
-use mathlib.Core.Path.{_≡_, refl}
-use mathlib.Core.List.{List}
+use Prim.Native.Nat.{ℕ, _+_}
+use mathlib.Core.Path.{_≡_, refl, ap, _∙_}
+use mathlib.Core.List.{List, [], _∷_, map}
 use native.Mathlib.Omega.{arith}
 use borrow.Author.Tests.{le-ltb}
 use lib.Dec.{ltb}
 use Rattle.wire.proofs.Booleans.{either}
 use Rattle.wire.proofs.Matches.{any-none}
 use Rattle.keylist.specs.Layout.{Configuration, good, bad, parse, Result}
+use lib.ListN.{take}
+use Rattle.keys.specs.declared.KeyState.{KeyState}
+use Rattle.keys.specs.Keys.{Key, keyOf, keysOf}
+use Rattle.keys.specs.Stored.{oneMore, usedState}
 use Rattle.keys.specs.Helpers.{noKey, keyAt}
-use Rattle.gateway.specs.Registry.{capHolds, withCap, registryFrom}
+use Rattle.gateway.specs.Registry.{Registry, capHolds, withCap, registryFrom}
+use Rattle.gateway.specs.View.{registryOf}
 use Rattle.gateway.specs.Gateway.{freshGateway}
 use Rattle.gateway.specs.Calls.{Call}
 use Rattle.book.specs.Book.{freshBook, bookDoes}
-use Rattle.book.specs.History.{trace}
+use Rattle.book.specs.History.{trace, gatewayAfter}
 use Rattle.book.specs.Demand3.{bookAfter}
 use Rattle.book.specs.Counts.{Counts, CountsHold, countingFrom}
 use Rattle.book.specs.Storage.{NothingWraps}
 use Rattle.book.proofs.KeyCounts.{same-id, same-length, fresh-count, each-key}
 use Rattle.book.proofs.Sound.{Sound, ticket-bound}
-use Rattle.book.proofs.Refinement.{fresh-alike, alike-after, refinement-holds}
+use Rattle.book.proofs.Refinement.{fresh-alike, alike-after, alike-end, refinement-holds}
 use Rattle.book.proofs.Counting.{ids-after, counted, given-after}
 
 -- at first counts and last ticket are 0
@@ -63,11 +68,22 @@ counts-hold list cap calls =
     let end = alike-after (freshGateway list cap) (freshBook list cap) calls fresh in
     rw (end .registry, refinement-holds list cap calls .sameAnswers) (book-counts list cap calls (fresh .sound) (end .sound))
 
+-- the counts of stored keys with one use more, by the keys
+used-counts : (stored : List KeyState) → map (λ (k : KeyState). usedState k .count) stored ≡ map (λ (key : Key). oneMore 32 (key .count)) (map keyOf stored)
+used-counts [] = refl
+used-counts (k ∷ stored) = ap (λ (ns : List ℕ). oneMore 32 (k .count) ∷ ns) (used-counts stored)
+
 pub nothing-wraps : NothingWraps
+unfolding keysOf
 nothing-wraps list cap calls =
-    let end = alike-after (freshGateway list cap) (freshBook list cap) calls (fresh-alike list cap) in
-    rw (end .registry) (record {
-      ticket = omega (arith, ticket-bound (bookAfter list cap calls) (end .sound));
-      counts = each-key _ _ (bookAfter list cap calls .registry .keys)
-          (λ place inside. omega (arith, end .sound .withinCap place, end .sound .capBound));
-    })
+    let g = gatewayAfter list cap calls in
+    let end = alike-end list cap calls in
+    let keys = bookAfter list cap calls .registry .keys in
+    let same : registryOf g .keys ≡ keys = ap (λ (r : Registry). r .keys) (end .registry) in
+    record {
+      ticket = omega (arith, ticket-bound (bookAfter list cap calls) (end .sound), ap (λ (r : Registry). r .lastTicket) (end .registry));
+      counts =
+          used-counts (take (g .keys .count) (g .keys .list))
+          ∙ rw same (each-key (λ key. oneMore 32 (key .count)) (λ key. key .count + 1) keys
+          (λ place inside. omega (arith, end .sound .withinCap place, end .sound .capBound)));
+    }

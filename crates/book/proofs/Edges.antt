@@ -2,7 +2,7 @@
 -- Assumes nothing.
 use mathlib.Core.Path.{refl}
 use Rattle.wire.specs.Texts.{ascii, requestLabel}
-use Rattle.wire.specs.Search.{firstPlace, firstThat, anyPasses, filtered}
+use Rattle.wire.specs.Search.{firstPlace, anyPasses, filtered, find}
 use Rattle.algorithms.specs.Table.{table, rowOf}
 use Rattle.algorithms.specs.Sizes.{knownKem, knownKdf, knownAead, encLength, publicKeyLength, keyLength}
 use Rattle.keylist.specs.Layout.{parse, parseFrom, layoutHolds, configurationAt, pairsAt}
@@ -22,7 +22,7 @@ use Rattle.book.specs.Demand3.{withOwnCalls}
 use Rattle.book.specs.Edges.{GatewayEdges, MovedExample}
 
 pub gateway-edges : GatewayEdges
-unfolding ascii requestLabel firstPlace anyPasses table rowOf knownKem knownKdf knownAead encLength publicKeyLength keyLength parse parseFrom layoutHolds configurationAt pairsAt hex edgeList leftIn refusalBy keysOf storedKeys admitRefusal freePlace filtered gatewayDoes number trace final ticketsOf ticketsGiven stepNumber firstThat retireRefusal withKey
+unfolding ascii requestLabel firstPlace anyPasses table rowOf knownKem knownKdf knownAead encLength publicKeyLength keyLength parse parseFrom layoutHolds configurationAt pairsAt hex edgeList leftIn refusalBy keysOf storedKeys admitRefusal freePlace filtered gatewayDoes number trace final ticketsOf ticketsGiven stepNumber find retireRefusal withKey
 gateway-edges =
     record {
       lists = list-edges;
@@ -47,5 +47,5 @@ gateway-edges =
     }
 
 pub moved-example : MovedExample
-unfolding ascii requestLabel firstPlace anyPasses table rowOf knownKem knownKdf knownAead encLength publicKeyLength keyLength parse parseFrom layoutHolds configurationAt pairsAt hex edgeList leftIn refusalBy keysOf storedKeys admitRefusal freePlace filtered gatewayDoes number trace final ticketsOf ticketsGiven bookDoes replaced withOwnCalls stepNumber firstThat retireRefusal withKey
+unfolding ascii requestLabel firstPlace anyPasses table rowOf knownKem knownKdf knownAead encLength publicKeyLength keyLength parse parseFrom layoutHolds configurationAt pairsAt hex edgeList leftIn refusalBy keysOf storedKeys admitRefusal freePlace filtered gatewayDoes number trace final ticketsOf ticketsGiven bookDoes replaced withOwnCalls stepNumber find retireRefusal withKey
 moved-example = record { order = refl; sameAnswers = refl }

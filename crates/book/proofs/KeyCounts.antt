@@ -15,7 +15,8 @@ use Rattle.wire.proofs.Booleans.{either, true-or-false}
 use Rattle.wire.proofs.Matches.{among-at}
 use Rattle.keylist.specs.Layout.{Configuration}
 use Rattle.keys.specs.Keys.{Key, freshKey, withUse, withRetirement}
-use Rattle.keys.specs.Helpers.{placeOfKey, noKey, keyAt}
+use Rattle.keys.specs.Helpers.{noKey, keyAt}
+use Rattle.keys.specs.Stored.{placeOfKey}
 use Rattle.gateway.specs.Registry.{mostUses}
 use Rattle.book.specs.Counts.{sumOfCounts}
 use Rattle.keys.proofs.Named.{changedAt}

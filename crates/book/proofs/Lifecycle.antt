@@ -17,13 +17,13 @@ use Rattle.exchange.specs.Steps.{Step, refusal, next, closes}
 use Rattle.exchange.proofs.Moves.{next-not-asked, closed-free}
 use Rattle.exchange.proofs.Steps.{accepted-pending, free-refuses, not-asked-silent}
 use Rattle.gateway.specs.declared.Gateway.{Gateway}
-use Rattle.gateway.specs.Gateway.{freshGateway, gatewayDoes}
+use Rattle.gateway.specs.Gateway.{freshGateway, gatewayDoes, placeOfTicket}
 use Rattle.gateway.specs.Calls.{Call, onTicket, number, unprotectedStatus}
 use Rattle.book.specs.Book.{Book, freshBook, bookDoes, bookStepNumber}
 use Rattle.book.specs.History.{final, gatewayAfter, Accepts}
 use Rattle.book.specs.Demand3.{bookAfter}
 use Rattle.book.specs.Lifecycle.{LifecycleHolds}
-use Rattle.book.specs.Storage.{placeOfTicket, ClosedPlaceIsFree}
+use Rattle.book.specs.Storage.{ClosedPlaceIsFree}
 use Rattle.book.proofs.Passing.{passing, passing-permuted}
 use Rattle.book.proofs.Table.{holding, holding-pending}
 use Rattle.book.proofs.Numbers.{step-number}

@@ -10,7 +10,8 @@ use Rattle.wire.specs.Search.{anyPasses}
 use Rattle.wire.proofs.Matches.{any-inside, any-first}
 use Rattle.exchange.specs.declared.Exchange.{Exchange}
 use Rattle.exchange.specs.Exchange.{free, isFree}
-use Rattle.gateway.specs.Gateway.{freePlace, isFull}
+use Rattle.gateway.specs.Gateway.{freePlace}
+use Rattle.gateway.specs.View.{isFull}
 
 pub place-inside : (table : List Exchange) → isFull table ≡ false → freePlace table < length table
 unfolding freePlace

@@ -10,7 +10,6 @@ use Rattle.gateway.specs.Registry.{statusOf, admitAnswer}
 use Rattle.gateway.specs.Gateway.{nextTicket, gatewayDoes, gatewayAdmitNumber}
 use Rattle.gateway.specs.Calls.{admit, retire, onTicket, reporting, ofAdmit, unprotectedStatus}
 use Rattle.book.specs.OneCall.{UnprotectedExactly}
-use Rattle.book.proofs.Numbers.{admit-number, step-number}
 
 -- the status of a refused admit
 admit-status : (n ticket : ℕ) (request : List ℕ) → unprotectedStatus (ofAdmit (admitAnswer n ticket request)) ≡ unlessRefused n 0 (statusOf n)
@@ -20,10 +19,7 @@ admit-status (suc n) ticket request = refl
 
 pub unprotected-exactly : UnprotectedExactly
 unfolding gatewayDoes unprotectedStatus
-unprotected-exactly g (admit request info) =
-    rw (admit-number (gatewayAdmitNumber request info g) (nextTicket g) request)
-    (admit-status (gatewayAdmitNumber request info g) (nextTicket g) request)
+unprotected-exactly g (admit request info) = admit-status (gatewayAdmitNumber request info g) (nextTicket g) request
 unprotected-exactly g (retire id) = refl
-unprotected-exactly g (onTicket ticket step) =
-    rw (step-number step (exchangeOf ticket (g .table))) (step-unprotected step (exchangeOf ticket (g .table)))
+unprotected-exactly g (onTicket ticket step) = step-unprotected step (exchangeOf ticket (g .table))
 unprotected-exactly g reporting = refl

@@ -11,14 +11,15 @@ use Rattle.book.proofs.Placing.{place-inside, place-free}
 use Rattle.request.specs.Request.{keyIdOf, fieldsOf}
 use Rattle.exchange.specs.Exchange.{hasTicket, exchangeOf, asked}
 use Rattle.exchange.specs.Steps.{Step, next}
-use Rattle.keys.specs.Helpers.{placeOfKey}
+use Rattle.keys.specs.Stored.{placeOfKey}
 use Rattle.keys.specs.Keys.{keysOf, withUse, withRetirement}
 use Rattle.gateway.specs.declared.Gateway.{Gateway}
 use Rattle.gateway.specs.Registry.{Registry, tableSize}
-use Rattle.gateway.specs.Gateway.{freePlace, nextTicket, isFull, gatewayAdmitted, gatewayRetired, gatewayStepped, gatewayAdmitNumber, gatewayRetireNumber, gatewayStepNumber, gatewayDoes}
-use Rattle.gateway.specs.View.{registryOf, pendingIn}
+use Rattle.gateway.specs.Gateway.{freePlace, nextTicket, gatewayAdmitted, gatewayRetired, gatewayStepped, gatewayDoes, gatewayAdmitNumber, gatewayRetireNumber, gatewayStepNumber}
+use Rattle.gateway.specs.View.{registryOf, pendingIn, isFull}
 use Rattle.gateway.specs.Calls.{Call, admit, retire, onTicket, reporting}
-use Rattle.book.specs.Book.{Book, setIsFull, bookStepped, bookDoes, bookAdmitted, bookRetired, bookAdmitNumber, bookRetireNumber, bookStepNumber}
+use Rattle.book.specs.Book.{Book, bookStepped, bookDoes, bookAdmitted, bookRetired, bookAdmitNumber, bookRetireNumber, bookStepNumber}
+use Rattle.book.proofs.Numbers.{setIsFull}
 use Rattle.book.proofs.Passing.{passing-permuted, length-permuted}
 use Rattle.book.proofs.Table.{holding-pending, found-permuted, found-pending, full-alike, replaced-permuted, replaced-in-table, admitted-in-table}
 use Rattle.book.proofs.Accepting.{retire-accepted, Admitted, admit-accepted}

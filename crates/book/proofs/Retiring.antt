@@ -9,7 +9,7 @@ use borrow.Author.Tests.{eqb-true, eqb-false, eq-eqb}
 use lib.Dec.{eqb, leb, ltb}
 use lib.ListN.{length}
 use Rattle.wire.specs.Tests.{pick}
-use Rattle.wire.specs.Search.{firstPlace, firstThat, anyPasses, among, isNone, isSomeThat}
+use Rattle.wire.specs.Search.{firstPlace, anyPasses, among, isNone, find, isSomeAnd}
 use Rattle.wire.specs.Refusals.{_when_otherwise_, unlessRefused}
 use Rattle.wire.proofs.Booleans.{either, true-or-false}
 use Rattle.wire.proofs.Numbers.{not-refused}
@@ -19,7 +19,7 @@ use Rattle.request.specs.Request.{keyIdOf, kemOf, kdfOf, aeadOf, fieldsOf}
 use Rattle.exchange.specs.declared.Exchange.{Exchange}
 use Rattle.exchange.specs.Exchange.{free, isFree, hasTicket, exchangeOf, asked}
 use Rattle.exchange.specs.Steps.{Step, refusal, next, leaves, answer, buffer}
-use Rattle.exchange.specs.Helpers.{after}
+use Rattle.exchange.specs.Moved.{after}
 use Rattle.exchange.proofs.Moves.{next-ticket, left-free}
 use Rattle.exchange.proofs.Steps.{accepted-pending}
 use Rattle.keys.specs.Keys.{Key, hasId, keyWith, offers, retireRefusal, withKey, withUse, withRetirement}
@@ -27,11 +27,11 @@ use Rattle.gateway.specs.Registry.{Registry, admitRefusal}
 use Rattle.gateway.specs.Gateway.{gatewayDoes}
 use Rattle.gateway.specs.Calls.{Call, admit, retire, onTicket, reporting, ofStep, number}
 use Rattle.gateway.proofs.Places.{own-ticket}
-use Rattle.book.specs.Book.{Book, freshBook, setIsFull, replaced, bookStepped, bookAdmitNumber, bookRetireNumber, bookStepNumber, bookDoes}
+use Rattle.book.specs.Book.{Book, freshBook, replaced, bookStepped, bookAdmitNumber, bookRetireNumber, bookStepNumber, bookDoes}
 use Rattle.book.specs.History.{final, Accepts}
 use Rattle.book.specs.Demand3.{bookAfter}
 use Rattle.book.specs.Retirement.{RetirementHolds, eventAfter}
-use Rattle.book.proofs.Numbers.{admit-number, retire-number}
+use Rattle.book.proofs.Numbers.{admit-number, retire-number, setIsFull}
 use Rattle.book.proofs.Accepting.{unless-kept}
 use Rattle.book.proofs.Pending.{asked-other, next-other, exchange-behind, exchange-beside}
 use Rattle.book.proofs.Tickets.{replaced-found}
@@ -41,12 +41,12 @@ use Rattle.book.proofs.Refinement.{final-append, alike-end}
 
 -- the key with the id is there, and retired
 abbrev isRetired : ℕ → List Key → Bool
-isRetired id keys = isSomeThat (λ key. key .retired) (keyWith id keys)
+isRetired id keys = isSomeAnd (λ key. key .retired) (keyWith id keys)
 
 -- a change of one key that keeps ids and retirements
 still-retired : (change : Key → Key) → ((key : Key) → change key .id ≡ key .id) → ((key : Key) → key .retired ≡ true → change key .retired ≡ true)
     → (id other : ℕ) (keys : List Key) → isRetired id keys ≡ true → isRetired id (withKey change other keys) ≡ true
-unfolding withKey firstThat
+unfolding withKey find
 still-retired change same keeps id other [] h = h
 still-retired change same keeps id other (key ∷ keys) h =
     either (hasId other key)
@@ -59,7 +59,7 @@ still-retired change same keeps id other (key ∷ keys) h =
 
 -- the retirement of a key that is there
 marked : (id : ℕ) (keys : List Key) → isNone (keyWith id keys) ≡ false → isRetired id (withKey withRetirement id keys) ≡ true
-unfolding withKey firstThat
+unfolding withKey find
 marked id [] h = absurd (true-or-false refl h)
 marked id (key ∷ keys) h = either (hasId id key) (λ i. rw i (rw i)) (λ i. rw i (rw i (marked id keys (rw i at h))))
 
@@ -107,9 +107,9 @@ unfolding admitRefusal
 refused-by-seven registry full request room h =
     let key = keyWith (keyIdOf request) (registry .keys) in
     up-to-seven (ltb longestRequest (length request)) (ltb (length request) headLength) (not (knownKem (kemOf request)))
-    (ltb (length request) (shortestRequest (kemOf request))) (isNone key) (not (isSomeThat (λ k. eqb (k .kem) (kemOf request)) key))
-    (not (isSomeThat (offers (kdfOf request) (aeadOf request)) key)) (isSomeThat (λ k. k .retired) key)
-    (8 when isSomeThat (λ k. leb (registry .cap) (k .count)) key otherwise 9 when full otherwise 14 when ltb room infoLength otherwise 0) h
+    (ltb (length request) (shortestRequest (kemOf request))) (isNone key) (not (isSomeAnd (λ k. eqb (k .kem) (kemOf request)) key))
+    (not (isSomeAnd (offers (kdfOf request) (aeadOf request)) key)) (isSomeAnd (λ k. k .retired) key)
+    (8 when isSomeAnd (λ k. leb (registry .cap) (k .count)) key otherwise 9 when full otherwise 14 when ltb room infoLength otherwise 0) h
 
 -- what a call leaves of the exchange that has the ticket
 abbrev leftBy : ℕ → Call → Exchange → Exchange
@@ -233,7 +233,7 @@ retirement-holds list cap calls id accepted =
             same-answer _ _ (admit request info) (alike-end list cap (calls ++ retire id ∷ between)),
             admit-number (bookAdmitNumber request info b) (b .registry .lastTicket + 1) request,
           ) (refused-by-seven (b .registry) (setIsFull b) request (length info) (rw names (stays-retired list cap calls id accepted between)));
-      othersGoOn = λ between ticket step given.
+      pendingGoOn = λ between ticket step given.
           let told = rw (alike-end list cap calls .registry) at given in
           told-after list cap calls (retire id ∷ between) ticket step told ∙ sym (told-after list cap calls between ticket step told);
     }

@@ -14,10 +14,12 @@ use Rattle.request.specs.Request.{keyIdOf, fieldsOf}
 use Rattle.exchange.specs.Exchange.{exchangeOf, asked}
 use Rattle.exchange.specs.Steps.{Step, next, leaves}
 use Rattle.keys.specs.Keys.{Key, freshKey, withRetirement, withUse}
-use Rattle.keys.specs.Helpers.{placeOfKey, keyAt}
+use Rattle.keys.specs.Helpers.{keyAt}
+use Rattle.keys.specs.Stored.{placeOfKey}
 use Rattle.gateway.specs.Registry.{capHolds, mostUses}
 use Rattle.gateway.specs.Calls.{Call, admit, retire, onTicket, reporting}
-use Rattle.book.specs.Book.{Book, setIsFull, bookStepped, bookDoes, bookAdmitted, bookRetired, bookAdmitNumber, bookRetireNumber, bookStepNumber}
+use Rattle.book.specs.Book.{Book, bookStepped, bookDoes, bookAdmitted, bookRetired, bookAdmitNumber, bookRetireNumber, bookStepNumber}
+use Rattle.book.proofs.Numbers.{setIsFull}
 use Rattle.book.specs.Counts.{sumOfCounts}
 use Rattle.book.proofs.Passing.{passing, passing-append}
 use Rattle.book.proofs.Table.{holding, holding-one, holding-other, holding-replaced, found-has}

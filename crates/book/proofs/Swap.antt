@@ -15,7 +15,8 @@ use Rattle.request.specs.Request.{keyIdOf, fieldsOf}
 use Rattle.request.specs.Helpers.{requestRefusal}
 use Rattle.exchange.specs.Exchange.{hasTicket, exchangeOf, asked}
 use Rattle.exchange.specs.Steps.{Step, next}
-use Rattle.keys.specs.Helpers.{placeOfKey, keyRefusal}
+use Rattle.keys.specs.Helpers.{keyRefusal}
+use Rattle.keys.specs.Stored.{placeOfKey}
 use Rattle.gateway.specs.Registry.{Registry, admitRefusal, tableSize}
 use Rattle.gateway.specs.Helpers.{_orElse_}
 use Rattle.gateway.specs.Calls.{Call, admit, retire, onTicket, reporting}

@@ -14,8 +14,7 @@ use Rattle.wire.specs.Search.{firstPlace, anyPasses, filtered}
 use Rattle.wire.proofs.Booleans.{either, true-or-false, and-right, and-false}
 use Rattle.exchange.specs.declared.Exchange.{Exchange}
 use Rattle.exchange.specs.Exchange.{free, isFree, hasTicket, exchangeOf}
-use Rattle.gateway.specs.Gateway.{isFull}
-use Rattle.gateway.specs.View.{pendingIn}
+use Rattle.gateway.specs.View.{pendingIn, isFull}
 use Rattle.book.specs.Book.{remaining, replaced}
 use Rattle.book.proofs.Passing.{passing, passing-append, passing-permuted, fronts-swapped, first-to-the-end}
 

@@ -1,6 +1,5 @@
 -- 01, "The list and the book of demand 3": the book, fed with setup's key list and cap, the calls and their arguments only.
 use Prim.Native.Nat.{ℕ, _+_}
-use mathlib.Core.Bool.{Bool}
 use mathlib.Core.List.{List, [], _∷_, _++_}
 use lib.Dec.{leb}
 use lib.ListN.{length}
@@ -23,10 +22,6 @@ pub record Book : Type 0 where
 -- is 1
 abbrev pub freshBook : List ℕ → ℕ → Book
 freshBook list cap = record { registry = freshRegistry list cap; pending = [] }
-
--- 9 means 128 in the set
-abbrev pub setIsFull : Book → Bool
-setIsFull b = leb tableSize (length (b .pending))
 
 -- an accepted admit adds one to its key's count and to the last ticket, which is then its ticket, and puts the exchange in as
 -- asked
@@ -61,9 +56,9 @@ abbrev pub bookStepped : ℕ → Step → Book → Book
 bookStepped ticket step b =
     record { registry = b .registry; pending = replaced ticket (next step (exchangeOf ticket (b .pending))) (b .pending) }
 
--- the refusals in their order
+-- the refusals in their order; 9 means 128 in the set
 abbrev pub bookAdmitNumber : List ℕ → List ℕ → Book → ℕ
-bookAdmitNumber request info b = admitRefusal (b .registry) (setIsFull b) request (length info)
+bookAdmitNumber request info b = admitRefusal (b .registry) (leb tableSize (length (b .pending))) request (length info)
 
 abbrev pub bookRetireNumber : ℕ → Book → ℕ
 bookRetireNumber id b = retireRefusal (keyWith id (b .registry .keys))

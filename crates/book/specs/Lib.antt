@@ -1,4 +1,4 @@
--- 01's book, and what holds over every list of calls: each theorem is stated here and proved in proofs/.
+-- 01's book, and what holds of a call, of every list of calls, and of client and gateway: each theorem is stated here and proved in proofs/.
 pub mod Book
 pub mod History
 pub mod OneCall

@@ -13,13 +13,13 @@ use Rattle.keylist.specs.Layout.{bad}
 use Rattle.algorithms.specs.Sizes.{knownKem, knownKdf, knownAead, shortestRequest}
 use Rattle.exchange.specs.declared.Exchange.{Exchange}
 use Rattle.request.specs.Request.{keyIdOf, kemOf, kdfOf, aeadOf}
-use Rattle.exchange.specs.Exchange.{isFree}
-use Rattle.exchange.specs.Steps.{fails}
+use Rattle.exchange.specs.Exchange.{isFree, exchangeOf}
+use Rattle.exchange.specs.Steps.{refusal, fails}
 use Rattle.keys.specs.Keys.{Key}
 use Rattle.gateway.specs.declared.Gateway.{Gateway}
-use Rattle.gateway.specs.Registry.{setup, statusOf}
+use Rattle.gateway.specs.Registry.{setup, admitRefusal, statusOf}
 use Rattle.gateway.specs.Gateway.{freshGateway, gatewayDoes}
-use Rattle.gateway.specs.View.{registryOf, pendingIn}
+use Rattle.gateway.specs.View.{registryOf, pendingIn, isFull}
 use Rattle.gateway.specs.Calls.{Call, admit, retire, onTicket, reporting, number, unprotectedStatus}
 use Rattle.book.specs.History.{gatewayAfter, Accepts}
 
@@ -30,7 +30,7 @@ lent (retire id) = []
 lent (onTicket ticket step) = step .salt
 lent reporting = []
 
--- "A refusal changes no gateway and no byte of a lent buffer", for every gateway and every call. Setup is given no gateway: "A refused setup
+-- "A refusal changes no gateway and no byte of a lent buffer", for every gateway and every call. Setup makes a gateway: "A refused setup
 -- hands back a gateway without keys, cap 1, last ticket 0"
 pub record RefusalChangesNothing : Type 0 where
   pub ofCall : (g : Gateway) (call : Call) → (number (gatewayDoes g call .answer) ≡ 0 → ⊥)
@@ -61,7 +61,7 @@ pub record Admissible (g : Gateway) (request info : List ℕ) : Type 0 where
   pub aeadKnown : knownAead (aeadOf request) ≡ true
   pub pairOffered : IsElement (record { kdf = kdfOf request; aead = aeadOf request }) (key .pairs)
   pub uses : key .count < registryOf g .cap
-  pub freePlaceThere : (place : Exchange) × IsElement place (g .table) × (isFree place ≡ true)
+  pub freePlaceThere : (e : Exchange) × IsElement e (g .table) × (isFree e ≡ true)
   pub room : infoLength ≤ length info
 
 -- for every gateway that calls reached
@@ -70,16 +70,15 @@ AdmissionExactly =
     (list : List ℕ) (cap : ℕ) (calls : List Call) (request info : List ℕ)
     → Accepts list cap calls (admit request info) ↔ Admissible (gatewayAfter list cap calls) request info
 
--- "Errors found before or at opening go out unprotected, later ones only sealed"; "no other call's refusal sends anything": by the refusal
--- number of a call, the status that goes out unprotected, 0 where nothing does. It is that of a refused admit, and 422 of a failed opening.
-abbrev pub unprotectedFor : ℕ → Call → ℕ
-unprotectedFor refusal (admit request info) = unlessRefused refusal 0 (statusOf refusal)
-unprotectedFor refusal (retire id) = 0
-unprotectedFor refusal (onTicket ticket step) = unlessRefused refusal (pick (fails (step .kind)) 422 0) 0
-unprotectedFor refusal reporting = 0
+-- "Errors found before or at opening go out unprotected, later ones only sealed"; "no other call's refusal sends anything": the status that
+-- goes out unprotected, 0 where nothing does. It is that of a refused admit, and 422 of a failed opening.
+abbrev pub unprotectedFor : Gateway → Call → ℕ
+unprotectedFor g (admit request info) =
+    let refusal = admitRefusal (registryOf g) (isFull (g .table)) request (length info) in unlessRefused refusal 0 (statusOf refusal)
+unprotectedFor g (retire id) = 0
+unprotectedFor g (onTicket ticket step) = unlessRefused (refusal step (exchangeOf ticket (g .table))) (pick (fails (step .kind)) 422 0) 0
+unprotectedFor g reporting = 0
 
 -- for every gateway and every call
 abbrev pub UnprotectedExactly : Type 0
-UnprotectedExactly =
-    (g : Gateway) (call : Call)
-    → unprotectedStatus (gatewayDoes g call .answer) ≡ unprotectedFor (number (gatewayDoes g call .answer)) call
+UnprotectedExactly = (g : Gateway) (call : Call) → unprotectedStatus (gatewayDoes g call .answer) ≡ unprotectedFor g call

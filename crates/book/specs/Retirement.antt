@@ -21,7 +21,7 @@ pub record Retirement (list : List ℕ) (cap : ℕ) (calls : List Call) (id : �
   pub refusesLater : (between : List Call) (request info : List ℕ) → keyIdOf request ≡ id
       → among (2 ∷ 1 ∷ 3 ∷ 4 ∷ 5 ∷ 6 ∷ 7 ∷ []) (number (answerAfter list cap (calls ++ retire id ∷ between) (admit request info))) ≡ true
   -- a call on a ticket that was given before gets the answer and leaves the bytes that it would have without the retirement
-  pub othersGoOn : (between : List Call) (ticket : ℕ) (step : Step) → ticket ≤ registryOf (gatewayAfter list cap calls) .lastTicket
+  pub pendingGoOn : (between : List Call) (ticket : ℕ) (step : Step) → ticket ≤ registryOf (gatewayAfter list cap calls) .lastTicket
       → eventAfter list cap (calls ++ retire id ∷ between) (onTicket ticket step) ≡ eventAfter list cap (calls ++ between) (onTicket ticket step)
 
 -- after every accepted retirement

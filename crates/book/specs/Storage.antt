@@ -3,18 +3,17 @@ use Prim.Native.Nat.{ℕ, _+_, _<_}
 use mathlib.Core.Bool.{true}
 use mathlib.Core.Path.{_≡_}
 use mathlib.Core.List.{List, [], _∷_, _++_, map}
-use lib.ListN.{length, getD}
-use Rattle.wire.specs.Search.{firstPlace}
+use lib.ListN.{length, getD, take}
 use Rattle.exchange.specs.declared.Exchange.{Exchange}
 use Rattle.request.specs.Request.{fieldsOf}
-use Rattle.exchange.specs.Exchange.{free, isFree, hasTicket, asked}
+use Rattle.exchange.specs.Exchange.{free, isFree, asked}
 use Rattle.exchange.specs.Steps.{Step, closes}
 use Rattle.keys.specs.Keys.{Key}
-use Rattle.keys.specs.Stored.{oneMore}
+use Rattle.keys.specs.declared.KeyState.{KeyState}
+use Rattle.keys.specs.Stored.{usedState}
 use Rattle.gateway.specs.declared.Gateway.{Gateway}
-use Rattle.gateway.specs.Registry.{Registry}
 use Rattle.gateway.specs.View.{registryOf}
-use Rattle.gateway.specs.Gateway.{nextTicket, gatewayDoes}
+use Rattle.gateway.specs.Gateway.{nextTicket, gatewayDoes, placeOfTicket}
 use Rattle.gateway.specs.Calls.{Call, admit, onTicket, number}
 use Rattle.book.specs.History.{gatewayAfter, Accepts}
 
@@ -32,10 +31,6 @@ PlaceIsFree =
     (g : Gateway) (request info : List ℕ) → number (gatewayDoes g (admit request info) .answer) ≡ 0
     → NewPlace (g .table) (gatewayDoes g (admit request info) .state .table) (asked (nextTicket g) (fieldsOf request))
 
--- the place of the exchange that has the ticket
-abbrev pub placeOfTicket : ℕ → List Exchange → ℕ
-placeOfTicket ticket table = firstPlace (hasTicket ticket) table
-
 -- "a closed ticket gives 11 and its place is free": a ticket on which a call is accepted has a place, which the call leaves free where it closes
 pub record ClosedPlace (list : List ℕ) (cap : ℕ) (calls : List Call) (ticket : ℕ) (step : Step) : Type 0 where
   pub inside : placeOfTicket ticket (gatewayAfter list cap calls .table) < length (gatewayAfter list cap calls .table)
@@ -49,9 +44,9 @@ ClosedPlaceIsFree =
     → ClosedPlace list cap calls ticket step
 
 -- no ticket and no count is the largest of its width, so that the next one is one more
-pub record OneMore (registry : Registry) : Type 0 where
-  pub ticket : oneMore 64 (registry .lastTicket) ≡ registry .lastTicket + 1
-  pub counts : map (λ (key : Key). oneMore 32 (key .count)) (registry .keys) ≡ map (λ (key : Key). key .count + 1) (registry .keys)
+pub record OneMore (g : Gateway) : Type 0 where
+  pub ticket : nextTicket g ≡ registryOf g .lastTicket + 1
+  pub counts : map (λ (k : KeyState). usedState k .count) (take (g .keys .count) (g .keys .list)) ≡ map (λ (key : Key). key .count + 1) (registryOf g .keys)
 
 abbrev pub NothingWraps : Type 0
-NothingWraps = (list : List ℕ) (cap : ℕ) (calls : List Call) → OneMore (registryOf (gatewayAfter list cap calls))
+NothingWraps = (list : List ℕ) (cap : ℕ) (calls : List Call) → OneMore (gatewayAfter list cap calls)

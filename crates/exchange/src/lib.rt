@@ -4,7 +4,7 @@ ghost use mathlib.Core.Path.{_≡_};
 ghost use mathlib.Core.Bool.{true};
 ghost use Rattle.exchange.specs.Exchange.{free, isFree, asked, leftIn, hasOpenedLength, responseHolds};
 ghost use Rattle.exchange.specs.Steps.{step, whenAsked, whenOpened, leaves, isAllowed, lengthsHold, refusalBy, accepted, answer, buffer};
-ghost use Rattle.exchange.specs.Helpers.{after};
+ghost use Rattle.exchange.specs.Moved.{after};
 use algorithms::Aead;
 use algorithms::Kem;
 use algorithms::Size;

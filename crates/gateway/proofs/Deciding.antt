@@ -14,7 +14,8 @@ use Rattle.algorithms.specs.Sizes.{knownKem, shortestRequest}
 use Rattle.request.specs.Request.{keyIdOf, kemOf, kdfOf, aeadOf, fieldsOf}
 use Rattle.request.specs.Helpers.{requestRefusal}
 use Rattle.keys.specs.Keys.{Key, keyWith, offers}
-use Rattle.keys.specs.Helpers.{placeOfKey, keyRefusal}
+use Rattle.keys.specs.Helpers.{keyRefusal}
+use Rattle.keys.specs.Stored.{placeOfKey}
 use Rattle.keys.proofs.Named.{namedTests, key-order}
 use Rattle.gateway.specs.Registry.{Registry, admitRefusal}
 use Rattle.gateway.specs.Helpers.{_orElse_, roomRefusal}

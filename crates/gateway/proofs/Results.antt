@@ -27,12 +27,12 @@ use Rattle.request.specs.Helpers.{requestRefusal, noFields, parsed}
 use Rattle.exchange.specs.declared.StepAnswer.{StepAnswer}
 use Rattle.exchange.specs.Exchange.{free, isFree, asked, hasTicket, exchangeOf}
 use Rattle.exchange.specs.Steps.{Step, refusal, next, answer}
-use Rattle.exchange.specs.Helpers.{after}
+use Rattle.exchange.specs.Moved.{after}
 use Rattle.request.proofs.Requests.{accepted-request, info-of}
 use Rattle.keys.specs.declared.KeyState.{KeyState}
 use Rattle.keys.specs.Keys.{Key, keysOf}
-use Rattle.keys.specs.Helpers.{placeOfKey, keyRefusal, retireRefusalAt}
-use Rattle.keys.specs.Stored.{blankKey, usedState, retiredState, changedState}
+use Rattle.keys.specs.Helpers.{keyRefusal, retireRefusalAt}
+use Rattle.keys.specs.Stored.{blankKey, usedState, retiredState, changedState, placeOfKey}
 use Rattle.keys.proofs.Arrays.{getD-any}
 use Rattle.keys.proofs.Named.{retire-order}
 use Rattle.keys.proofs.Stored.{unread, place-used}
@@ -44,7 +44,8 @@ use Rattle.gateway.specs.declared.AdmitAnswer.{AdmitAnswer}
 use Rattle.gateway.specs.declared.RetireAnswer.{RetireAnswer}
 use Rattle.gateway.specs.Registry.{refusalOfAdmit, admission, admitAnswer, retireAnswer, tableSize}
 use Rattle.gateway.specs.Helpers.{_orElse_, roomRefusal, exchangeAt}
-use Rattle.gateway.specs.Gateway.{isFull, freePlace, nextTicket, gatewayDoes, gatewayAdmitNumber, gatewayRetireNumber, gatewayAdmitted, gatewayRetired}
+use Rattle.gateway.specs.Gateway.{freePlace, nextTicket, gatewayDoes, gatewayAdmitted, gatewayRetired, gatewayAdmitNumber, gatewayRetireNumber}
+use Rattle.gateway.specs.View.{isFull}
 use Rattle.gateway.specs.Change.{changed, Fits}
 use Rattle.gateway.proofs.Deciding.{none-of-both, admit-order}
 use Rattle.gateway.specs.Calls.{admit, retire, onTicket, ofAdmit, ofRetire, ofStep}

@@ -1,10 +1,9 @@
 -- The gateway as it is stored, and what it does with each call: the contracts of the entries cite `gatewayDoes` and `freshGateway`. The
 -- theorems of `book` say of every list of calls that it gives what 01's book gives.
 use Prim.Native.Nat.{ℕ}
-use mathlib.Core.Bool.{Bool, not}
 use mathlib.Core.List.{List, []}
 use lib.ListN.{length, set, replicate}
-use Rattle.wire.specs.Search.{firstPlace, anyPasses}
+use Rattle.wire.specs.Search.{firstPlace}
 use Rattle.wire.specs.Refusals.{unlessRefused, written}
 use Rattle.keylist.specs.Layout.{Configuration, Result, good, bad}
 use Rattle.exchange.specs.declared.Exchange.{Exchange}
@@ -13,11 +12,10 @@ use Rattle.exchange.specs.Exchange.{free, isFree, hasTicket, exchangeOf, asked}
 use Rattle.exchange.specs.Steps.{Step, refusal, next, answer, buffer}
 use Rattle.keys.specs.declared.Keys.{Keys}
 use Rattle.keys.specs.Keys.{keyWith, retireRefusal, keysOf}
-use Rattle.keys.specs.Stored.{storedKeys, oneMore, usedState, retiredState, changedState}
-use Rattle.keys.specs.Helpers.{placeOfKey}
+use Rattle.keys.specs.Stored.{storedKeys, oneMore, usedState, retiredState, changedState, placeOfKey}
 use Rattle.gateway.specs.declared.Gateway.{Gateway}
 use Rattle.gateway.specs.Registry.{tableSize, setup, admitRefusal, admitAnswer, retireAnswer, report}
-use Rattle.gateway.specs.View.{registryOf, pendingIn}
+use Rattle.gateway.specs.View.{registryOf, pendingIn, isFull}
 use Rattle.gateway.specs.Calls.{Call, admit, retire, onTicket, reporting, ofAdmit, ofRetire, ofStep, ofReport, Done}
 
 -- a gateway of these keys, with all places free
@@ -31,10 +29,6 @@ gatewayFrom cap (bad r) = emptyGateway 1 (storedKeys [])
 
 abbrev pub freshGateway : List ℕ → ℕ → Gateway
 freshGateway list cap = gatewayFrom cap (setup list cap)
-
--- no place is free
-abbrev pub isFull : List Exchange → Bool
-isFull table = not (anyPasses isFree table)
 
 -- 01's open point, the place of a new exchange in a table that is not full: the first that is free. The theorems use of it only
 -- that it was free (`NewPlace` of book).
@@ -65,6 +59,10 @@ gatewayRetired id g =
       table = g .table;
     }
 
+-- the place of the exchange that has the ticket
+abbrev pub placeOfTicket : ℕ → List Exchange → ℕ
+placeOfTicket ticket table = firstPlace (hasTicket ticket) table
+
 -- after an accepted call on a ticket: in the place of its exchange stands what the call makes of it
 abbrev pub gatewayStepped : ℕ → Step → Gateway → Gateway
 gatewayStepped ticket step g =
@@ -72,7 +70,7 @@ gatewayStepped ticket step g =
       «last_ticket» = g .«last_ticket»;
       cap = g .cap;
       keys = g .keys;
-      table = set (g .table) (firstPlace (hasTicket ticket) (g .table)) (next step (exchangeOf ticket (g .table)));
+      table = set (g .table) (placeOfTicket ticket (g .table)) (next step (exchangeOf ticket (g .table)));
     }
 
 -- the refusal numbers of the calls

@@ -1,4 +1,4 @@
--- What only the contracts of helper functions cite: a reader of the rules can skip this file.
+-- What only the contracts of functions below the entries cite: a reader of the rules can skip this file.
 use Prim.Native.Nat.{ℕ, zero, suc}
 use mathlib.Core.Bool.{Bool}
 use lib.Dec.{leb, ltb}

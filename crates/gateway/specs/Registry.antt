@@ -5,7 +5,7 @@ use mathlib.Core.List.{List, [], map}
 use lib.Dec.{eqb, leb, ltb}
 use lib.ListN.{length}
 use Rattle.wire.specs.Tests.{pick, _and_}
-use Rattle.wire.specs.Search.{isNone, isSomeThat}
+use Rattle.wire.specs.Search.{isNone, isSomeAnd}
 use Rattle.wire.specs.Refusals.{_when_otherwise_, refused}
 use Rattle.wire.specs.Texts.{headLength, infoLength, longestRequest}
 use Rattle.algorithms.specs.Sizes.{knownKem, shortestRequest}
@@ -67,10 +67,10 @@ admitRefusal registry full request room =
     3 when not (knownKem (kemOf request)) otherwise
     1 when ltb (length request) (shortestRequest (kemOf request)) otherwise
     4 when isNone key otherwise
-    5 when not (isSomeThat (λ k. eqb (k .kem) (kemOf request)) key) otherwise
-    6 when not (isSomeThat (offers (kdfOf request) (aeadOf request)) key) otherwise
-    7 when isSomeThat (λ k. k .retired) key otherwise
-    8 when isSomeThat (λ k. leb (registry .cap) (k .count)) key otherwise
+    5 when not (isSomeAnd (λ k. eqb (k .kem) (kemOf request)) key) otherwise
+    6 when not (isSomeAnd (offers (kdfOf request) (aeadOf request)) key) otherwise
+    7 when isSomeAnd (λ k. k .retired) key otherwise
+    8 when isSomeAnd (λ k. leb (registry .cap) (k .count)) key otherwise
     9 when full otherwise
     14 when ltb room infoLength otherwise
     0

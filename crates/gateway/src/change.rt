@@ -3,7 +3,7 @@
 ghost use mathlib.Core.Path.{_≡_};
 ghost use lib.ListN.{set};
 ghost use Rattle.exchange.specs.Steps.{step, answer, buffer};
-ghost use Rattle.exchange.specs.Helpers.{after};
+ghost use Rattle.exchange.specs.Moved.{after};
 ghost use Rattle.gateway.specs.Change.{changed, Fits};
 ghost use Rattle.gateway.specs.Helpers.{exchangeAt};
 use crate::Gateway;

@@ -3,9 +3,8 @@ ghost use mathlib.Core.Path.{_≡_};
 ghost use mathlib.Core.List.{[], _∷_};
 ghost use Prim.Native.Nat.{_≤_};
 ghost use lib.ListN.{length};
-ghost use Rattle.wire.specs.Search.{firstPlace};
-ghost use Rattle.exchange.specs.Exchange.{free, hasTicket, exchangeOf};
-ghost use Rattle.gateway.specs.Gateway.{freePlace};
+ghost use Rattle.exchange.specs.Exchange.{free, exchangeOf};
+ghost use Rattle.gateway.specs.Gateway.{freePlace, placeOfTicket};
 ghost use Rattle.gateway.specs.View.{pendingIn};
 ghost use Rattle.gateway.specs.Registry.{tableSize};
 use exchange::Exchange;
@@ -39,7 +38,7 @@ pub(crate) struct Found {
 
 // The pending exchange with a ticket and its place; a free one and the table's size where none has it.
 pub(crate) fn find(table: [Exchange; TABLE_SIZE], ticket: Ticket) -> Found
-    ensures place { λ r. ⌜ r .place ≡ firstPlace (hasTicket (ticket .0)) table ⌝ }
+    ensures place { λ r. ⌜ r .place ≡ placeOfTicket (ticket .0) table ⌝ }
     ensures exchange { λ r. ⌜ r .exchange ≡ exchangeOf (ticket .0) table ⌝ }
 {
     if ticket.0 == 0 {

@@ -99,7 +99,7 @@ pub extern "C" fn sealwax_retire(gateway: &mut Gateway, key_id: u8) -> Outcome
 // Report: last ticket, number pending, and each key's count and retirement. The gateway is as it was.
 #[no_mangle]
 pub extern "C" fn sealwax_report(gateway: &Gateway) -> ReportResult
-    ensures { λ r. ⌜ Does reportResult reporting (now (gateway .entry)) (now (gateway .entry)) r [] ⌝ }
+    ensures { λ r. ⌜ Does reportResult reporting (now (gateway .entry)) (now (gateway .exit)) r [] ⌝ }
 {
     gateway_calls::report(*gateway)
 }

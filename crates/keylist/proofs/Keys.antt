@@ -12,7 +12,7 @@ use borrow.Author.Tests.{lt-ltb, eq-eqb, ne-eqb, eqb-true, eqb-false, ltb-true, 
 use lib.Dec.{eqb, ltb}
 use lib.ListN.{length, length-take, length-drop}
 use Rattle.wire.specs.Bytes.{part}
-use Rattle.wire.specs.Search.{firstThat}
+use Rattle.wire.specs.Search.{find}
 use Rattle.wire.specs.declared.refusal.Refusal.{Refusal}
 use Rattle.wire.proofs.Booleans.{either}
 use Rattle.algorithms.specs.Sizes.{publicKeyLength}
@@ -101,9 +101,9 @@ empty-on-refusal bytes id = empty-place bytes (keyPlaceIn id (parse bytes)) (ins
 
 -- from an offset on: the part that is found is the public key of the first configuration with the key id, and has its Npk bytes
 key-rest : (bytes : List ℕ) (id : ℕ) (rest : List Configuration) (at : ℕ) (w : GoodFrom bytes at) → w .rest ≡ rest → (c : Configuration)
-    → firstThat (λ d. eqb (d .keyId) id) (w .rest) ≡ some c
+    → find (λ d. eqb (d .keyId) id) (w .rest) ≡ some c
     → (keyPart bytes (firstWithId id (w .rest)) ≡ c .publicKey) × (length (c .publicKey) ≡ publicKeyLength (c .kem))
-unfolding firstThat configurationAt
+unfolding find configurationAt
 key-rest bytes id [] at w e c f = absurd (Option·none-ne-some c (rw e at f))
 key-rest bytes id (d ∷ rest) at w e c f =
     either (ltb at (length bytes))

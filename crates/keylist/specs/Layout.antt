@@ -57,7 +57,7 @@ pairsStart bytes at = keyEnd bytes at + 2
 abbrev pub nextStart : List ℕ → ℕ → ℕ
 nextStart bytes at = at + 2 + lengthAt bytes at
 
--- both halves of a pair
+-- the pair has these two numbers
 abbrev pub isPair : ℕ → ℕ → Pair → Bool
 isPair kdf aead pair = eqb (pair .kdf) kdf and eqb (pair .aead) aead
 
@@ -106,4 +106,4 @@ parseFrom (suc more) taken bytes at =
 -- a list is one configuration or more; a bad one is refused whole, at its first bad configuration
 unfoldable pub parse : List ℕ → Result (List Configuration)
 parse [] = bad (badList 0)
-parse (b ∷ bytes) = parseFrom mostConfigurations [] (b ∷ bytes) 0
+parse (byte ∷ bytes) = parseFrom mostConfigurations [] (byte ∷ bytes) 0

@@ -1,5 +1,5 @@
--- 01, "Key list": the layout read into configurations, the answers of check and key reader, and
--- the starred edges of lists.
+-- 01, "Key list": the layout read into configurations, the answers of check and key reader, what the key reader hands
+-- back, and the starred edges of lists.
 pub mod Layout
 pub mod Answers
 pub mod Stated

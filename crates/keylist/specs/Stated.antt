@@ -6,7 +6,7 @@ use mathlib.Core.List.{List, []}
 use mathlib.Core.Option.{some}
 use lib.Dec.{eqb}
 use lib.ListN.{length}
-use Rattle.wire.specs.Search.{firstThat}
+use Rattle.wire.specs.Search.{find}
 use Rattle.wire.specs.declared.refusal.Refusal.{Refusal}
 use Rattle.algorithms.specs.Sizes.{publicKeyLength}
 use Rattle.keylist.specs.declared.KeyPlace.{KeyPlace}
@@ -17,7 +17,7 @@ use Rattle.keylist.specs.Answers.{keyPlaceIn, keyPart}
 abbrev pub PublicKeyExactly : Type 0
 PublicKeyExactly =
     (bytes : List ℕ) (id : ℕ) (cs : List Configuration) (c : Configuration)
-    → parse bytes ≡ good cs → firstThat (λ d. eqb (d .keyId) id) cs ≡ some c
+    → parse bytes ≡ good cs → find (λ d. eqb (d .keyId) id) cs ≡ some c
     → (keyPart bytes (keyPlaceIn id (parse bytes)) ≡ c .publicKey) × (length (c .publicKey) ≡ publicKeyLength (c .kem))
 
 -- the answer is a refusal: it is made so by the case that its type has for refusals

@@ -10,7 +10,7 @@ use lib.ListN.{length, getD, take, set, replicate, length-append, length-map, le
 use lib.Seq.{set-at, getD-take, take-append-seam, take-nil}
 use Rattle.wire.specs.Search.{firstPlace, anyPasses}
 use Rattle.wire.proofs.Matches.{first-at, first-none, any-at, any-none}
-use Rattle.keys.specs.Stored.{padded}
+use Rattle.keys.specs.Keys.{padded}
 
 module _ {A : Type 0} where
   -- in range it does not matter what stands for what is out of range

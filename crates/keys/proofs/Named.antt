@@ -8,13 +8,14 @@ use Prim.Native.Nat.{ℕ}
 use borrow.Author.Tests.{leb-true, leb-false}
 use lib.Dec.{eqb, leb}
 use lib.ListN.{length, set}
-use Rattle.wire.specs.Search.{firstPlace, isNone, isSomeThat}
+use Rattle.wire.specs.Search.{firstPlace, isNone, isSomeAnd}
 use Rattle.wire.specs.Refusals.{_when_otherwise_}
 use Rattle.wire.proofs.Booleans.{either}
 use Rattle.wire.proofs.Matches.{that-inside, that-outside}
 use Rattle.request.specs.declared.Request.{Request}
 use Rattle.keys.specs.Keys.{Key, hasId, keyWith, offers, retireRefusal, withKey}
-use Rattle.keys.specs.Helpers.{noKey, placeOfKey, keyAt, keyRefusal, retireRefusalAt}
+use Rattle.keys.specs.Helpers.{noKey, keyAt, keyRefusal, retireRefusalAt}
+use Rattle.keys.specs.Stored.{placeOfKey}
 
 -- the keys with the one at a place changed
 abbrev pub changedAt : (Key → Key) → ℕ → List Key → List Key
@@ -30,10 +31,10 @@ with-key change id (key ∷ keys) =
 abbrev pub namedTests : ℕ → Option Key → ℕ → ℕ → ℕ → ℕ → ℕ
 namedTests cap key kem kdf aead rest =
     4 when isNone key otherwise
-    5 when not (isSomeThat (λ k. eqb (k .kem) kem) key) otherwise
-    6 when not (isSomeThat (offers kdf aead) key) otherwise
-    7 when isSomeThat (λ k. k .retired) key otherwise
-    8 when isSomeThat (λ k. leb cap (k .count)) key otherwise
+    5 when not (isSomeAnd (λ k. eqb (k .kem) kem) key) otherwise
+    6 when not (isSomeAnd (offers kdf aead) key) otherwise
+    7 when isSomeAnd (λ k. k .retired) key otherwise
+    8 when isSomeAnd (λ k. leb cap (k .count)) key otherwise
     rest
 
 module _ (id : ℕ) (keys : List Key) where

@@ -14,7 +14,8 @@ use Rattle.keylist.proofs.LayoutLaws.{good-layout}
 use Rattle.keylist.proofs.Walk.{GoodFrom, walk-start, walk-next, walk-end}
 use Rattle.keys.specs.declared.KeyState.{KeyState}
 use Rattle.keys.specs.declared.Keys.{Keys}
-use Rattle.keys.specs.Stored.{mostPairs, noPair, blankKey, storedKey, storedKeys, padded}
+use Rattle.keys.specs.Stored.{mostPairs, noPair, blankKey, storedKey, storedKeys}
+use Rattle.keys.specs.Keys.{padded}
 use Rattle.keys.specs.Helpers.{keysFrom}
 use Rattle.keys.proofs.Arrays.{set-padded, map-append}
 use Rattle.keys.proofs.Parsed.{parsed}

@@ -19,8 +19,7 @@ use Rattle.keys.specs.declared.KeyState.{KeyState}
 use Rattle.keys.specs.declared.Keys.{Keys}
 use Rattle.keys.specs.declared.KeyReport.{KeyReport}
 use Rattle.keylist.specs.Layout.{mostConfigurations}
-use Rattle.keys.specs.Keys.{Key, offers, reportOf, blankReport, storedReports, keyOf, keysOf}
-use Rattle.keys.specs.Stored.{padded}
+use Rattle.keys.specs.Keys.{Key, offers, reportOf, blankReport, storedReports, keyOf, keysOf, padded}
 use Rattle.keys.specs.Helpers.{noKey, keyAt, keyRefusal, retireRefusalAt}
 use Rattle.keylist.proofs.Pair
 use Rattle.keys.proofs.KeyState

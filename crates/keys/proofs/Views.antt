@@ -9,9 +9,9 @@ use lib.Seq.{take-set-lt}
 use Rattle.keylist.specs.Layout.{Configuration, good, parse, mostConfigurations}
 use Rattle.keys.specs.declared.KeyState.{KeyState}
 use Rattle.keys.specs.declared.Keys.{Keys}
-use Rattle.keys.specs.Keys.{Key, freshKey, withUse, withRetirement, keyOf, keysOf}
+use Rattle.keys.specs.Keys.{Key, freshKey, withUse, withRetirement, keyOf, keysOf, padded}
 use Rattle.keys.specs.Helpers.{noKey, keyAt, keysFrom}
-use Rattle.keys.specs.Stored.{mostPairs, noPair, blankKey, storedKey, storedKeys, oneMore, usedState, retiredState, changedState, padded}
+use Rattle.keys.specs.Stored.{mostPairs, noPair, blankKey, storedKey, storedKeys, oneMore, usedState, retiredState, changedState}
 use Rattle.keys.proofs.Named.{changedAt}
 use Rattle.keys.proofs.Arrays.{take-padded, map-set, length-stored, stored-at}
 use Rattle.keys.proofs.Parsed.{Distinct, ids, parsed}

@@ -1,22 +1,17 @@
--- What only the contracts of helper functions cite: a reader of the rules can skip this file.
+-- What only the contracts of functions below the entries cite: a reader of the rules can skip this file.
 use Prim.Native.Nat.{ℕ}
 use mathlib.Core.Bool.{false, not}
 use mathlib.Core.List.{List, []}
 use lib.Dec.{eqb, leb}
 use lib.ListN.{length, getD}
-use Rattle.wire.specs.Search.{firstPlace}
 use Rattle.wire.specs.Refusals.{_when_otherwise_}
 use Rattle.keylist.specs.Layout.{Configuration, Result, good, bad}
 use Rattle.keylist.specs.Answers.{checked}
 use Rattle.request.specs.declared.Request.{Request}
 use Rattle.keys.specs.declared.Keys.{Keys}
 use Rattle.keys.specs.declared.KeysRead.{KeysRead}
-use Rattle.keys.specs.Keys.{Key, hasId, offers}
+use Rattle.keys.specs.Keys.{Key, offers}
 use Rattle.keys.specs.Stored.{storedKeys}
-
--- the place of the key with the id, the number of keys where none has it
-abbrev pub placeOfKey : ℕ → List Key → ℕ
-placeOfKey id keys = firstPlace (hasId id) keys
 
 -- the key at a place, and what stands for it where there is none
 abbrev pub noKey : Key

@@ -7,7 +7,7 @@ use mathlib.Core.Option.{Option}
 use lib.Dec.{eqb}
 use lib.ListN.{length, take, replicate}
 use Rattle.wire.specs.Tests.{pick, _and_}
-use Rattle.wire.specs.Search.{firstThat, anyPasses, isNone, isSomeThat}
+use Rattle.wire.specs.Search.{anyPasses, isNone, find, isSomeAnd}
 use Rattle.wire.specs.Refusals.{_when_otherwise_}
 use Rattle.algorithms.specs.Sizes.{knownPair}
 use Rattle.keylist.specs.declared.Pair.{Pair}
@@ -32,7 +32,7 @@ hasId id key = eqb (key .id) id
 
 -- the key that has the id, if there is one
 abbrev pub keyWith : ℕ → List Key → Option Key
-keyWith id keys = firstThat (hasId id) keys
+keyWith id keys = find (hasId id) keys
 
 -- the pair is known and listed for the key, both its numbers in one pair
 abbrev pub offers : ℕ → ℕ → Key → Bool
@@ -42,7 +42,7 @@ offers kdf aead key = knownPair kdf aead and anyPasses (isPair kdf aead) (key .p
 unfoldable pub retireRefusal : Option Key → ℕ
 retireRefusal key =
     4 when isNone key otherwise
-    7 when isSomeThat (λ k. k .retired) key otherwise
+    7 when isSomeAnd (λ k. k .retired) key otherwise
     0
 
 -- the key has one use more
@@ -65,8 +65,12 @@ reportOf key = record { id = record { 0 = key .id }; count = key .count; retired
 abbrev pub blankReport : KeyReport
 blankReport = record { id = record { 0 = 0 }; count = 0; retired = false }
 
+-- the elements first, then blanks up to a length
+abbrev pub padded : {A : Type 0} → ℕ → A → List A → List A
+padded size blank xs = xs ++ replicate (size - length xs) blank
+
 abbrev pub storedReports : List Key → List KeyReport
-storedReports keys = map reportOf keys ++ replicate (mostConfigurations - length (map reportOf keys)) blankReport
+storedReports keys = padded mostConfigurations blankReport (map reportOf keys)
 
 -- the keys that a gateway holds: the first ones of its array, as many as it counts
 abbrev pub keyOf : KeyState → Key

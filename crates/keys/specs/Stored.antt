@@ -1,19 +1,17 @@
 -- How the gateway stores its keys: arrays of a fixed length whose first elements count.
 use Prim.Native.Nat.{ℕ, _/_, _+_, _-_, _^_, min}
-use mathlib.Core.List.{List, [], _++_, map}
+use mathlib.Core.List.{List, [], map}
 use lib.ListN.{length, getD, set, replicate}
+use Rattle.wire.specs.Search.{firstPlace}
 use Rattle.keylist.specs.declared.Pair.{Pair}
 use Rattle.keylist.specs.Layout.{Configuration, mostConfigurations, mostPairBytes}
 use Rattle.keys.specs.declared.KeyState.{KeyState}
+use Rattle.keys.specs.Keys.{Key, hasId, padded}
 use Rattle.keys.specs.declared.Keys.{Keys}
 
 -- the most pairs of a key, of four bytes each
 abbrev pub mostPairs : ℕ
 mostPairs = mostPairBytes / 4
-
--- the elements first, then blanks up to a length
-abbrev pub padded : {A : Type 0} → ℕ → A → List A → List A
-padded size blank xs = xs ++ replicate (size - length xs) blank
 
 abbrev pub noPair : Pair
 noPair = record { kdf = 0; aead = 0 }
@@ -43,6 +41,10 @@ storedKey c =
 
 unfoldable pub storedKeys : List Configuration → Keys
 storedKeys cs = record { list = padded mostConfigurations blankKey (map storedKey cs); count = length cs }
+
+-- the place of the key with the id, the number of keys where none has it
+abbrev pub placeOfKey : ℕ → List Key → ℕ
+placeOfKey id keys = firstPlace (hasId id) keys
 
 -- one more, or the same where it is the largest number of so many bits; no number of a gateway that calls reached is the largest
 -- (`NothingWraps` of book)

@@ -1,4 +1,4 @@
--- 01, "Layouts", the request: its fields, where its parts lie, and the refusals that the request alone decides.
+-- 01, "Layouts", the request: its fields, and where its parts lie.
 use Prim.Native.Nat.{ℕ, _+_, _-_}
 use mathlib.Core.List.{List}
 use lib.ListN.{length, take}

@@ -5,7 +5,8 @@ use lib.Dec.{ltb}
 use lib.ListN.{length}
 use Rattle.wire.specs.Refusals.{_when_otherwise_, refused}
 use Rattle.wire.specs.Exporter.{exporterContext}
-use Rattle.algorithms.specs.Sizes.{knownAead, secretLength}
+use Rattle.algorithms.specs.Sizes.{knownAead}
+use Rattle.algorithms.specs.Answers.{secretLength}
 use Rattle.client.specs.declared.choose.Chosen.{Chosen}
 use Rattle.client.specs.declared.head.HeadAnswer.{HeadAnswer}
 use Rattle.client.specs.declared.split.Parts.{Parts}

@@ -12,7 +12,7 @@ use lib.Dec.{eqb, leb, ltb}
 use lib.ListN.{length, getD}
 use Rattle.wire.specs.Tests.{pick}
 use Rattle.wire.proofs.Booleans.{either, true-or-false}
-use Rattle.wire.specs.Search.{firstPlace, firstThat, anyPasses, among}
+use Rattle.wire.specs.Search.{firstPlace, anyPasses, among, find}
 
 later : (b : Bool) {rest : Bool} → rest ≡ true → pick b true rest ≡ true
 later true e = refl
@@ -67,13 +67,13 @@ module _ {A : Type 0} (default : A) (test : A → Bool) where
   any-none (x ∷ xs) none = rw (none 0 (omega arith)) (any-none xs (λ j l. none (suc j) (suc-le-suc l)))
 
   -- the first match as an element, where there is one
-  pub that-inside : (xs : List A) → firstPlace test xs < length xs → firstThat test xs ≡ some (getD xs (firstPlace test xs) default)
-  unfolding firstPlace firstThat
+  pub that-inside : (xs : List A) → firstPlace test xs < length xs → find test xs ≡ some (getD xs (firstPlace test xs) default)
+  unfolding firstPlace find
   that-inside [] h = absurd (not-suc-le-zero h)
   that-inside (x ∷ xs) h = either (test x) (λ e. rw e) (λ e. rw e (that-inside xs (le-of-suc-le-suc (rw e at h))))
 
-  pub that-outside : (xs : List A) → length xs ≤ firstPlace test xs → firstThat test xs ≡ nothing
-  unfolding firstPlace firstThat
+  pub that-outside : (xs : List A) → length xs ≤ firstPlace test xs → find test xs ≡ nothing
+  unfolding firstPlace find
   that-outside [] h = refl
   that-outside (x ∷ xs) h =
       either (test x) (λ e. absurd (not-suc-le-zero (rw e at h))) (λ e. rw e (that-outside xs (le-of-suc-le-suc (rw e at h))))

@@ -6,7 +6,7 @@ use Rattle.wire.specs.Bytes.{withFront}
 use Rattle.wire.specs.declared.refusal.Refusal.{Refusal}
 
 infixr 4 _when_otherwise_
--- the number where the test holds, else what follows; at the end of a chain 0 stands for no refusal
+-- the number where the test holds, else what follows; at the end of a chain of refusals 0 stands for none
 abbrev pub _when_otherwise_ : ℕ → Bool → ℕ → ℕ
 _when_otherwise_ n true m = n
 _when_otherwise_ n false m = m

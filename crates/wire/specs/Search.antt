@@ -26,9 +26,9 @@ abbrev pub among : List ℕ → ℕ → Bool
 among numbers number = anyPasses (λ n. eqb n number) numbers
 
 -- the first element that passes, if there is one
-unfoldable pub firstThat : {A : Type 0} → (A → Bool) → List A → Option A
-firstThat test [] = none
-firstThat test (x ∷ xs) = pick (test x) (some x) (firstThat test xs)
+unfoldable pub find : {A : Type 0} → (A → Bool) → List A → Option A
+find test [] = none
+find test (x ∷ xs) = pick (test x) (some x) (find test xs)
 
 -- there is none
 abbrev pub isNone : {A : Type 0} → Option A → Bool
@@ -36,6 +36,6 @@ isNone none = true
 isNone (some x) = false
 
 -- there is one, and it passes
-abbrev pub isSomeThat : {A : Type 0} → (A → Bool) → Option A → Bool
-isSomeThat test none = false
-isSomeThat test (some x) = test x
+abbrev pub isSomeAnd : {A : Type 0} → (A → Bool) → Option A → Bool
+isSomeAnd test none = false
+isSomeAnd test (some x) = test x

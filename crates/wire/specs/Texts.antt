@@ -1,4 +1,4 @@
--- RFC 9458's fixed texts: the seven bytes in front of a request, and info; and the longest request and plain response (01, "Layouts").
+-- The seven bytes in front of a request, info with its fixed text, and the longest request and plain response (01, "Layouts").
 use Prim.Native.Nat.{ℕ}
 use Prim.Native.Char.{code}
 use Prim.Native.String.{String, [] as end, _∷_ as _then_}

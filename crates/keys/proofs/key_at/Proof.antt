@@ -10,7 +10,8 @@ use Rattle.keylist.specs.declared.Place.{Place}
 use Rattle.keylist.specs.Helpers.{placeOf}
 use Rattle.keylist.proofs.LayoutLaws.{Holds}
 use Rattle.keylist.proofs.Keys.{good-place}
-use Rattle.keys.specs.Stored.{mostPairs, noPair, padded}
+use Rattle.keys.specs.Stored.{mostPairs, noPair}
+use Rattle.keys.specs.Keys.{padded}
 use Rattle.keys.proofs.Reading.{stored-here}
 use Rattle.keys.proofs.key_at.Statement.{statement}
 use Rattle.keys.proofs.key_at.Tie as tie

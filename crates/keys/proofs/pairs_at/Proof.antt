@@ -5,7 +5,8 @@ use Prim.Native.Nat.{_-_, _≤_}
 use native.Mathlib.Omega.{arith}
 use borrow.Author.Needs.{needs}
 use Rattle.keylist.specs.Layout.{pairsAt}
-use Rattle.keys.specs.Stored.{mostPairs, noPair, padded}
+use Rattle.keys.specs.Stored.{mostPairs, noPair}
+use Rattle.keys.specs.Keys.{padded}
 use Rattle.keys.proofs.Arrays.{set-padded}
 use Rattle.keys.proofs.Reading.{pairAt, length-pairs, pairs-more}
 use Rattle.keys.proofs.pairs_at.Statement.{statement}

@@ -10,7 +10,7 @@ use borrow.Author.Tests.{eq-eqb, ne-eqb}
 use lib.Dec.{eqb}
 use lib.ListN.{getD}
 use Rattle.keys.specs.Keys.{hasId, keyOf, keysOf}
-use Rattle.keys.specs.Helpers.{placeOfKey}
+use Rattle.keys.specs.Stored.{placeOfKey}
 use Rattle.keys.proofs.Arrays.{stored-first, stored-first-none}
 use Rattle.keys.proofs.Stored.{unread, full}
 use Rattle.keys.proofs.Keys.find.Statement.{statement}

@@ -2,7 +2,8 @@
 -- Assumes nothing.
 use mathlib.Core.Path.{sym, _∙_}
 use Rattle.wire.proofs.Booleans.{true-or-false}
-use Rattle.algorithms.specs.Sizes.{knownAead, secretLength}
+use Rattle.algorithms.specs.Sizes.{knownAead}
+use Rattle.algorithms.specs.Answers.{secretLength}
 use Rattle.algorithms.proofs.Answers.{known, unknown}
 use borrow.Author.Needs.{needs}
 use Rattle.results.proofs.client_calls.secret_length.Statement.{statement}

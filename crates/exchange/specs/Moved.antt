@@ -1,4 +1,4 @@
--- What only the contracts of helper functions cite: a reader of the rules can skip this file.
+-- What `Exchange::moved` leaves of an exchange, refused or not.
 use Rattle.wire.specs.Refusals.{unlessRefused}
 use Rattle.exchange.specs.declared.Exchange.{Exchange}
 use Rattle.exchange.specs.Steps.{Step, refusal, next}
