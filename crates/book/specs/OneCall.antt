@@ -74,7 +74,7 @@ AdmissionExactly =
 -- goes out unprotected, 0 where nothing does. It is that of a refused admit, and 422 of a failed opening.
 abbrev pub unprotectedFor : Gateway → Call → ℕ
 unprotectedFor g (admit request info) =
-    let refusal = admitRefusal (registryOf g) (isFull (g .table)) request (length info) in unlessRefused refusal 0 (statusOf refusal)
+    let n = admitRefusal (registryOf g) (isFull (g .table)) request (length info) in unlessRefused n 0 (statusOf n)
 unprotectedFor g (retire id) = 0
 unprotectedFor g (onTicket ticket step) = unlessRefused (refusal step (exchangeOf ticket (g .table))) (pick (fails (step .kind)) 422 0) 0
 unprotectedFor g reporting = 0

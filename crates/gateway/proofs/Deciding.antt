@@ -34,31 +34,21 @@ pub both-none : (a b : ℕ) → a ≡ 0 → b ≡ 0 → (a orElse b) ≡ 0
 both-none zero b p q = q
 both-none (suc a) b p q = absurd (omega (arith, p))
 
--- the part of the request in front of the rest of the order
-request-first : (a b c d : Bool) (rest : ℕ)
-    → ((2 when a otherwise 1 when b otherwise 3 when c otherwise 1 when d otherwise 0) orElse rest)
-    ≡ (2 when a otherwise 1 when b otherwise 3 when c otherwise 1 when d otherwise rest)
-request-first true b c d rest = refl
-request-first false true c d rest = refl
-request-first false false true d rest = refl
-request-first false false false true rest = refl
-request-first false false false false rest = refl
-
--- the part of the key in front of the rest
-some-first : (a b c d : Bool) (rest : ℕ)
-    → ((5 when a otherwise 6 when b otherwise 7 when c otherwise 8 when d otherwise 0) orElse rest)
-    ≡ (5 when a otherwise 6 when b otherwise 7 when c otherwise 8 when d otherwise rest)
-some-first true b c d rest = refl
-some-first false true c d rest = refl
-some-first false false true d rest = refl
-some-first false false false true rest = refl
-some-first false false false false rest = refl
+-- a part of four refusals in front of the rest of the order
+four-first : (i j k l : ℕ) (a b c d : Bool) (rest : ℕ)
+    → ((suc i when a otherwise suc j when b otherwise suc k when c otherwise suc l when d otherwise 0) orElse rest)
+    ≡ (suc i when a otherwise suc j when b otherwise suc k when c otherwise suc l when d otherwise rest)
+four-first i j k l true b c d rest = refl
+four-first i j k l false true c d rest = refl
+four-first i j k l false false true d rest = refl
+four-first i j k l false false false true rest = refl
+four-first i j k l false false false false rest = refl
 
 key-first : (cap : ℕ) (key : Option Key) (kem kdf aead rest : ℕ)
     → (namedTests cap key kem kdf aead 0 orElse rest) ≡ namedTests cap key kem kdf aead rest
 key-first cap none kem kdf aead rest = refl
 key-first cap (some k) kem kdf aead rest =
-    some-first (not (eqb (k .kem) kem)) (not (offers kdf aead k)) (k .retired) (leb cap (k .count)) rest
+    four-first 4 5 6 7 (not (eqb (k .kem) kem)) (not (offers kdf aead k)) (k .retired) (leb cap (k .count)) rest
 
 -- the parts, one after the other
 abbrev pub inParts : Registry → Bool → List ℕ → ℕ → ℕ
@@ -74,7 +64,7 @@ unfolding admitRefusal requestRefusal
 admit-order registry full request room =
     let key = keyWith (keyIdOf request) (registry .keys) in
     sym (
-    request-first (ltb longestRequest (length request)) (ltb (length request) headLength) (not (knownKem (kemOf request)))
+    four-first 1 0 2 0 (ltb longestRequest (length request)) (ltb (length request) headLength) (not (knownKem (kemOf request)))
     (ltb (length request) (shortestRequest (kemOf request))) _
     ∙ ap (λ (rest : ℕ). 2 when ltb longestRequest (length request) otherwise
     1 when ltb (length request) headLength otherwise

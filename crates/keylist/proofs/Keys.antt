@@ -20,11 +20,15 @@ use Rattle.algorithms.proofs.Stated.{size-bounds}
 use Rattle.keylist.specs.declared.KeyPlace.{KeyPlace}
 use Rattle.keylist.specs.declared.Place.{Place}
 use Rattle.keylist.specs.Layout.{Configuration, good, bad, parse, configurationAt, layoutHolds, keyIdAt, kemAt, keyStart, keyEnd, nextStart, Result}
-use Rattle.keylist.specs.Answers.{keyPlaceIn, firstWithId, keyPart}
+use Rattle.keylist.specs.Answers.{configurationWith, keyPlace, keyPlaceIn, keyPart}
 use Rattle.keylist.specs.Helpers.{placeOf, placeAt}
 use Rattle.keylist.specs.Stated.{EmptyOnRefusal, PublicKeyExactly}
 use Rattle.keylist.proofs.LayoutLaws.{Holds, holds}
 use Rattle.keylist.proofs.Walk.{GoodFrom, GoodNext, walk-start, walk-next, walk-end, key-length-at}
+
+-- where the key with the id lies, of these configurations
+abbrev pub firstWithId : ℕ → List Configuration → KeyPlace
+firstWithId id cs = keyPlace (configurationWith id cs)
 
 pub place-inside : (bytes : List ℕ) (at : ℕ) → at < length bytes → placeAt bytes at ≡ placeOf bytes at
 place-inside bytes at h = rw (lt-ltb at (length bytes) h)
@@ -37,14 +41,14 @@ good-place {bytes} {at} h e = let is = holds bytes at h in (is, e ∙ place-insi
 module _ (bytes : List ℕ) (at id : ℕ) {rest : List Configuration} (n : GoodNext bytes at rest) where
   -- the next configuration has the key id
   pub found-here : keyIdAt bytes at ≡ id → firstWithId id rest ≡ KeyPlace.Found (keyStart at) (keyEnd bytes at)
-  unfolding configurationAt
+  unfolding configurationAt find
   found-here e =
       rw (n .first, eq-eqb (keyIdAt bytes at) id e)
       (ap (λ (k : ℕ). KeyPlace.Found (keyStart at) (keyStart at + k)) (key-length-at bytes at (n .holding)))
 
   -- it has another
   pub found-later : (keyIdAt bytes at ≡ id → ⊥) → firstWithId id rest ≡ firstWithId id (n .next .rest)
-  unfolding configurationAt
+  unfolding configurationAt find
   found-later e = rw (n .first, ne-eqb (keyIdAt bytes at) id e)
 
 -- what is found lies in the list and is not empty
@@ -60,7 +64,7 @@ inside-key bytes at h =
 
 inside-rest : (bytes : List ℕ) (id : ℕ) (rest : List Configuration) (at : ℕ) (w : GoodFrom bytes at) → w .rest ≡ rest
     → Inside bytes (firstWithId id (w .rest))
-unfolding Inside
+unfolding Inside find
 inside-rest bytes id [] at w e = rw e tt
 inside-rest bytes id (c ∷ cs) at w e =
     either (ltb at (length bytes))
@@ -101,7 +105,7 @@ empty-on-refusal bytes id = empty-place bytes (keyPlaceIn id (parse bytes)) (ins
 
 -- from an offset on: the part that is found is the public key of the first configuration with the key id, and has its Npk bytes
 key-rest : (bytes : List ℕ) (id : ℕ) (rest : List Configuration) (at : ℕ) (w : GoodFrom bytes at) → w .rest ≡ rest → (c : Configuration)
-    → find (λ d. eqb (d .keyId) id) (w .rest) ≡ some c
+    → configurationWith id (w .rest) ≡ some c
     → (keyPart bytes (firstWithId id (w .rest)) ≡ c .publicKey) × (length (c .publicKey) ≡ publicKeyLength (c .kem))
 unfolding find configurationAt
 key-rest bytes id [] at w e c f = absurd (Option·none-ne-some c (rw e at f))

@@ -1,10 +1,11 @@
 -- `keylist::key::find_in_good` meets its contract. The loop's invariant: the key is sought among the configurations that are left of
 -- a good list. The measure is what is left of the list.
 -- Assumes nothing.
-use Rattle.keylist.proofs.Keys.{place-inside, found-here, found-later}
+use Rattle.keylist.proofs.Keys.{firstWithId, place-inside, found-here, found-later}
 use Rattle.keylist.proofs.Walk.{GoodFrom, walk-start, walk-next, walk-end}
 use Rattle.keylist.specs.declared.Place.{Place}
-use Rattle.keylist.specs.Answers.{keyPlaceIn, firstWithId}
+use Rattle.wire.specs.Search.{find}
+use Rattle.keylist.specs.Answers.{keyPlaceIn}
 use Rattle.keylist.specs.Helpers.{placeOf}
 use Rattle.keylist.specs.Layout.{parse}
 use mathlib.Core.Path.{_≡_, sym, ap, _∙_}
@@ -52,6 +53,7 @@ loop-again c =
     rw is (n .next, l .inv .1 ∙ found-later _ _ _ n (rw is at (c .if1 .left)), n .holding .whole)
 
 returns-2 : tie.Need-returns-2 Inv-loop μ-loop
+unfolding find
 returns-2 c =
     let l = c .before .before .loop in
     rw (l .inv .1, walk-end _ (l .at) (l .inv .0) (omega arith), c .of .ensures)
