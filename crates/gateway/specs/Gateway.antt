@@ -1,8 +1,11 @@
 -- The gateway as it is stored, and what it does with each call: the contracts of the entries cite `gatewayDoes` and `freshGateway`. The
 -- theorems of `book` say of every list of calls that it gives what 01's book gives.
-use Prim.Native.Nat.{ℕ}
+use Prim.Native.Nat.{ℕ, _%_}
+use mathlib.Core.Bool.{Bool}
 use mathlib.Core.List.{List, []}
-use lib.ListN.{length, set, replicate}
+use lib.Dec.{ltb}
+use lib.ListN.{length, getD, set, replicate}
+use Rattle.wire.specs.Tests.{pick, _and_}
 use Rattle.wire.specs.Search.{firstPlace}
 use Rattle.wire.specs.Refusals.{unlessRefused, written}
 use Rattle.keylist.specs.Layout.{Configuration, Result, good, bad}
@@ -29,6 +32,22 @@ gatewayFrom cap (bad r) = emptyGateway 1 (storedKeys [])
 
 abbrev pub freshGateway : List ℕ → ℕ → Gateway
 freshGateway list cap = gatewayFrom cap (setup list cap)
+
+-- A10: the engines, by which a ticket and a free place are searched: the fast one, which hosts use, and the plain one
+pub data Engine : Type 0 where
+  fast : Engine
+  plain : Engine
+
+-- a ticket's home, where the fast engine looks first
+abbrev pub home : ℕ → ℕ
+home ticket = ticket % tableSize
+
+-- where an engine finds, for a ticket, an exchange that passes: the plain one the first, the fast one that at the ticket's home if it
+-- passes, else the first; the table's length where none passes
+unfoldable pub placeBy : Engine → ℕ → (Exchange → Bool) → List Exchange → ℕ
+placeBy plain ticket passes table = firstPlace passes table
+placeBy fast ticket passes table =
+    pick (ltb (home ticket) (length table) and passes (getD table (home ticket) free)) (home ticket) (firstPlace passes table)
 
 -- 01's open point, the place of a new exchange in a table that is not full: the first that is free. The theorems use of it only
 -- that it was free (`NewPlace` of book).

@@ -1,7 +1,7 @@
 -- What only the contracts of functions below the entries cite: a reader of the rules can skip this file.
 use Prim.Native.Nat.{ℕ, zero, suc}
 use mathlib.Core.Bool.{Bool}
-use lib.Dec.{leb, ltb}
+use lib.Dec.{eqb, leb, ltb}
 use Rattle.wire.specs.Tests.{pick}
 use Rattle.wire.specs.Refusals.{_when_otherwise_}
 use Rattle.wire.specs.Texts.{infoLength}
@@ -32,3 +32,11 @@ exchangeAt place e change =
       place = place;
       exchange = e;
     })
+
+-- the exchange's ticket is this number, which is 0 in a free place
+abbrev pub hasNumber : ℕ → Exchange → Bool
+hasNumber number e = eqb (e .ticket .0) number
+
+-- a place that a search found, the first one where it found none
+abbrev pub inside : ℕ → ℕ
+inside place = pick (ltb place tableSize) place 0
