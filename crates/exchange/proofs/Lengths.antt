@@ -4,8 +4,9 @@ use mathlib.Core.Path.{_≡_}
 use mathlib.Core.Bool.{true, false, not}
 use Prim.Native.Nat.{ℕ, _+_, _≤_}
 use native.Mathlib.Omega.{arith}
-use lib.Dec.{ltb}
+use lib.Dec.{eqb, ltb}
 use borrow.Author.Tests.{eqb-true, leb-true, ltb-false, not-false}
+use Rattle.wire.proofs.Booleans.{either}
 use Rattle.wire.proofs.Numbers.{not-refused}
 use Rattle.keylist.proofs.LayoutLaws.{both}
 use Rattle.algorithms.specs.Sizes.{knownKem, knownAead, encLength, responseNonceLength}
@@ -15,6 +16,7 @@ use Rattle.exchange.specs.declared.Move.{Move}
 use Rattle.exchange.specs.Exchange.{isFree, responseHolds}
 use Rattle.wire.specs.Texts.{longestPlain}
 use Rattle.exchange.specs.Steps.{isAllowed, lengthsHold, refusalBy}
+use Rattle.exchange.specs.Moved.{ofTicket}
 
 -- the lengths that hold, as numbers, and their bounds
 pub record Lengths (enc nonce plain : ℕ) (e : Exchange) : Type 0 where
@@ -57,3 +59,10 @@ accepted-by kind enc nonce room e h =
       lengthsHold = not-false (lengthsHold kind enc nonce e) held;
       fits = ltb-false room (enc + nonce) fits;
     }
+
+-- where a call on a ticket is accepted, the exchange has the ticket
+pub own-accepted : (ticket : ℕ) (kind : Move) (encSize nonceSize room : ℕ) (e : Exchange)
+    → refusalBy kind encSize nonceSize room (ofTicket ticket e) ≡ 0 → ofTicket ticket e ≡ e
+unfolding refusalBy
+own-accepted ticket kind encSize nonceSize room e none =
+    either (eqb (e .ticket .0) ticket) (λ own. rw own) (λ other. let z : _≡_ {A = ℕ} 11 0 = rw other at none in absurd (omega arith))

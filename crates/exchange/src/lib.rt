@@ -2,9 +2,10 @@
 // back in its next state, with the answer.
 ghost use mathlib.Core.Path.{_≡_};
 ghost use mathlib.Core.Bool.{true};
+ghost use lib.Dec.{eqb};
 ghost use Rattle.exchange.specs.Exchange.{free, isFree, asked, leftIn, hasOpenedLength, responseHolds};
 ghost use Rattle.exchange.specs.Steps.{step, whenAsked, whenOpened, leaves, isAllowed, lengthsHold, refusalBy, accepted, answer, buffer};
-ghost use Rattle.exchange.specs.Moved.{after};
+ghost use Rattle.exchange.specs.Moved.{ofTicket, after};
 use algorithms::Aead;
 use algorithms::Kem;
 use algorithms::Size;
@@ -139,14 +140,24 @@ impl Exchange {
         self.ticket.0 == 0
     }
 
-    // A call on the ticket, with the bytes that it brings, as respond does. Where it is accepted, enc and nonce are written at the front of the
-    // salt buffer.
-    pub fn moved(self, kind: Move, enc: &[u8], nonce: &[u8], salt: &mut [u8]) -> Moved
-        ensures answer { λ r. ⌜ r .answer ≡ answer (step kind (now (enc .entry)) (now (nonce .entry)) (now (salt .entry))) self ⌝ }
-        ensures next { λ r. ⌜ r .exchange ≡ after (step kind (now (enc .entry)) (now (nonce .entry)) (now (salt .entry))) self ⌝ }
-        ensures buffer { λ r. ⌜ now (salt .exit) ≡ buffer (step kind (now (enc .entry)) (now (nonce .entry)) (now (salt .entry))) self ⌝ }
+    // A call on a ticket, with the bytes that it brings, as respond does: refused where the exchange has another ticket. Where it is accepted, enc
+    // and nonce are written at the front of the salt buffer.
+    pub fn moved(
+        self,
+        ticket: Ticket,
+        kind: Move,
+        enc: &[u8],
+        nonce: &[u8],
+        salt: &mut [u8],
+    ) -> Moved
+        ensures answer { λ r. ⌜ r .answer ≡ answer
+            (step kind (now (enc .entry)) (now (nonce .entry)) (now (salt .entry))) (ofTicket (ticket .0) self) ⌝ }
+        ensures next { λ r. ⌜ r .exchange ≡ after (ticket .0)
+            (step kind (now (enc .entry)) (now (nonce .entry)) (now (salt .entry))) self ⌝ }
+        ensures buffer { λ r. ⌜ now (salt .exit) ≡ buffer
+            (step kind (now (enc .entry)) (now (nonce .entry)) (now (salt .entry))) (ofTicket (ticket .0) self) ⌝ }
     {
-        let number = self.refusal(kind, enc.len(), nonce.len(), salt.len());
+        let number = self.refusal(ticket, kind, enc.len(), nonce.len(), salt.len());
         if number != 0 {
             return Moved {
                 exchange: self,
@@ -178,9 +189,12 @@ impl Exchange {
     }
 
     // The first refusal of a call, by the lengths of what it brings; 0 where there is none.
-    fn refusal(self, kind: Move, enc: usize, nonce: usize, room: usize) -> u8
-        ensures { λ r. ⌜ r ≡ refusalBy kind enc nonce room self ⌝ }
+    fn refusal(self, ticket: Ticket, kind: Move, enc: usize, nonce: usize, room: usize) -> u8
+        ensures { λ r. ⌜ r ≡ refusalBy kind enc nonce room (ofTicket (ticket .0) self) ⌝ }
     {
+        if !self.has(ticket) {
+            return Refusal::NOT_PENDING;
+        }
         if self.is_free() {
             return Refusal::NOT_PENDING;
         }
@@ -197,6 +211,12 @@ impl Exchange {
             return Refusal::NO_ROOM;
         }
         0
+    }
+
+    fn has(self, ticket: Ticket) -> bool
+        ensures { λ r. ⌜ r ≡ eqb (self .ticket .0) (ticket .0) ⌝ }
+    {
+        self.ticket.0 == ticket.0
     }
 
     // The call is allowed in the exchange's state.

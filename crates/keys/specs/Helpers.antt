@@ -1,17 +1,19 @@
 -- What only the contracts of functions below the entries cite: a reader of the rules can skip this file.
 use Prim.Native.Nat.{ℕ}
-use mathlib.Core.Bool.{false, not}
-use mathlib.Core.List.{List, []}
-use lib.Dec.{eqb, leb}
+use mathlib.Core.Bool.{Bool, false, not}
+use mathlib.Core.List.{List, [], _∷_}
+use lib.Dec.{eqb, leb, ltb}
 use lib.ListN.{length, getD}
+use Rattle.wire.specs.Tests.{pick}
 use Rattle.wire.specs.Refusals.{_when_otherwise_}
 use Rattle.keylist.specs.Layout.{Configuration, Result, good, bad}
 use Rattle.keylist.specs.Answers.{checked}
 use Rattle.request.specs.declared.Request.{Request}
 use Rattle.keys.specs.declared.Keys.{Keys}
 use Rattle.keys.specs.declared.KeysRead.{KeysRead}
+use Rattle.keys.specs.declared.KeyPlace.{KeyPlace}
 use Rattle.keys.specs.Keys.{Key, offers}
-use Rattle.keys.specs.Stored.{storedKeys}
+use Rattle.keys.specs.Stored.{storedKeys, placeOfKey}
 
 -- the key at a place, and what stands for it where there is none
 abbrev pub noKey : Key
@@ -36,6 +38,16 @@ retireRefusalAt keys place =
     4 when leb (length keys) place otherwise
     7 when keyAt keys place .retired otherwise
     0
+
+-- the keys of which one is told whether it is there: that one, or none
+abbrev pub given : Bool → Key → List Key
+given there key = pick there (key ∷ []) []
+
+-- where the code finds the key with an id
+abbrev pub foundKey : ℕ → List Key → KeyPlace
+foundKey id keys =
+    let there = ltb (placeOfKey id keys) (length keys) in
+    record { place = pick there (placeOfKey id keys) 0; there = there }
 
 -- the keys of a list; none where it is refused
 unfoldable pub keysFrom : Result (List Configuration) → Keys

@@ -1,14 +1,14 @@
 // The gateway's keys: made of a key list, found by id, each with its pairs, its use count and its retirement.
 ghost use mathlib.Core.Path.{_≡_};
-ghost use Prim.Native.Nat.{_≤_, _+_, _*_};
+ghost use Prim.Native.Nat.{_≤_, _<_, _+_, _*_};
 ghost use mathlib.Core.Bool.{true};
 ghost use mathlib.Core.List.{[]};
 ghost use lib.Dec.{ltb};
 ghost use lib.ListN.{length};
-ghost use Rattle.keylist.specs.Layout.{parse, layoutHolds, configurationAt, pairsAt, isPair};
+ghost use Rattle.keylist.specs.Layout.{parse, layoutHolds, configurationAt, pairsAt, isPair, mostConfigurations};
 ghost use Rattle.keylist.specs.Helpers.{IsGood};
 ghost use Rattle.keys.specs.Keys.{offers, reportOf, storedReports, keyOf, keysOf, padded};
-ghost use Rattle.keys.specs.Helpers.{keyRefusal, retireRefusalAt, keysFrom, keysRead};
+ghost use Rattle.keys.specs.Helpers.{keyRefusal, retireRefusalAt, given, foundKey, keysFrom, keysRead};
 ghost use Rattle.keys.specs.Stored.{mostPairs, noPair, blankKey, storedKey, storedKeys, oneMore, usedState, retiredState, placeOfKey};
 use algorithms::Aead;
 use algorithms::Kdf;
@@ -49,6 +49,12 @@ pub struct Keys {
 pub struct KeysRead {
     pub keys: Keys,
     pub checked: Checked,
+}
+
+// Where a key was found: its place, the first one where it was not; and whether it is there.
+pub struct KeyPlace {
+    pub place: usize,
+    pub there: bool,
 }
 
 // A key, as report shows it.
@@ -114,6 +120,41 @@ impl KeyState {
         next
     }
 
+    // The first refusal of a request that names the key, or none where the key is not there; 0 where there is no refusal.
+    pub fn refusal(self, there: bool, cap: u32, request: Request) -> u8
+        ensures { λ r. ⌜ r ≡ keyRefusal cap (given there (keyOf self)) 0 request ⌝ }
+    {
+        if !there {
+            return Refusal::NO_SUCH_KEY;
+        }
+        if self.kem != request.kem {
+            return Refusal::OTHER_KEM;
+        }
+        if !self.offers(request.kdf, request.aead) {
+            return Refusal::PAIR_NOT_OFFERED;
+        }
+        if self.retired != 0 {
+            return Refusal::KEY_RETIRED;
+        }
+        if cap <= self.count {
+            return Refusal::KEY_USED_UP;
+        }
+        0
+    }
+
+    // The first refusal to retire the key, or none where the key is not there; 0 where there is no refusal.
+    pub fn retire_refusal(self, there: bool) -> u8
+        ensures { λ r. ⌜ r ≡ retireRefusalAt (given there (keyOf self)) 0 ⌝ }
+    {
+        if !there {
+            return Refusal::NO_SUCH_KEY;
+        }
+        if self.retired != 0 {
+            return Refusal::KEY_RETIRED;
+        }
+        0
+    }
+
     fn report(self) -> KeyReport
         ensures { λ r. ⌜ r ≡ reportOf (keyOf self) ⌝ }
     {
@@ -165,8 +206,23 @@ impl Keys {
         }
     }
 
+    // The key with an id, by its place.
+    pub fn find(self, id: KeyId) -> KeyPlace
+        ensures place { λ r. ⌜ r ≡ foundKey (id .0) (keysOf self) ⌝ }
+        ensures inside { λ r. ⌜ r .place < mostConfigurations ⌝ }
+    {
+        let place = self.first_with(id);
+        if self.has(place) {
+            return KeyPlace { place, there: true };
+        }
+        KeyPlace {
+            place: 0,
+            there: false,
+        }
+    }
+
     // The place of the key with an id; the number of keys where none has it.
-    pub fn find(self, id: KeyId) -> usize
+    fn first_with(self, id: KeyId) -> usize
         ensures { λ r. ⌜ r ≡ placeOfKey (id .0) (keysOf self) ⌝ }
     {
         let count = self.count as usize;
@@ -204,42 +260,6 @@ impl Keys {
             return false;
         }
         place < (self.count as usize)
-    }
-
-    // The first refusal of a request that the key at a place decides, 0 where there is none.
-    pub fn refusal(self, place: usize, cap: u32, request: Request) -> u8
-        ensures { λ r. ⌜ r ≡ keyRefusal cap (keysOf self) place request ⌝ }
-    {
-        if !self.has(place) {
-            return Refusal::NO_SUCH_KEY;
-        }
-        let key = self.list[place];
-        if key.kem != request.kem {
-            return Refusal::OTHER_KEM;
-        }
-        if !key.offers(request.kdf, request.aead) {
-            return Refusal::PAIR_NOT_OFFERED;
-        }
-        if key.retired != 0 {
-            return Refusal::KEY_RETIRED;
-        }
-        if cap <= key.count {
-            return Refusal::KEY_USED_UP;
-        }
-        0
-    }
-
-    // The first refusal to retire the key at a place, 0 where there is none.
-    pub fn retire_refusal(self, place: usize) -> u8
-        ensures { λ r. ⌜ r ≡ retireRefusalAt (keysOf self) place ⌝ }
-    {
-        if !self.has(place) {
-            return Refusal::NO_SUCH_KEY;
-        }
-        if self.list[place].retired != 0 {
-            return Refusal::KEY_RETIRED;
-        }
-        0
     }
 
     // The keys as report shows them.

@@ -1,7 +1,7 @@
 -- `exchange::Exchange::moved` meets its contract: enc and nonce by the laws of writes at the front, the next state; and all as
 -- it was where a number refuses.
 -- Assumes nothing.
-use mathlib.Core.Path.{_≡_, refl, ap, _∙_}
+use mathlib.Core.Path.{_≡_, refl, sym, ap, _∙_}
 use Prim.Native.Nat.{ℕ, zero, suc}
 use native.Mathlib.Omega.{arith}
 use lib.ListN.{length}
@@ -10,7 +10,7 @@ use Rattle.wire.proofs.Writes.{front-first, front-more}
 use Rattle.wire.proofs.Numbers.{unless-refused}
 use Rattle.exchange.specs.declared.StepAnswer.{StepAnswer}
 use Rattle.exchange.specs.Steps.{answerBy}
-use Rattle.exchange.proofs.Lengths.{Accepted, accepted-by}
+use Rattle.exchange.proofs.Lengths.{Accepted, accepted-by, own-accepted}
 use borrow.Author.Needs.{needs}
 use Rattle.exchange.proofs.Exchange.moved.Statement.{statement}
 use Rattle.exchange.proofs.Exchange.moved.Tie as tie
@@ -30,8 +30,9 @@ accepted : (c : tie.Else1)
     Accepted (a .kind) (length (a .enc .now)) (length (a .nonce .now)) (length (a .salt .now)) (a .self)
 accepted c =
     let a = c .before .before .before .before .before .args in
+    let none = sym (c .before .refusal .ensures) ∙ c .if1 .left in
     accepted-by (a .kind) (length (a .enc .now)) (length (a .nonce .now)) (length (a .salt .now)) (a .self)
-    (rw (← c .before .refusal .ensures) (c .if1 .left))
+    (rw (own-accepted (a .ticket .0) (a .kind) (length (a .enc .now)) (length (a .nonce .now)) (length (a .salt .now)) (a .self) none) at none)
 
 returns : tie.Need-returns
 returns c =
