@@ -2,5 +2,6 @@
 pub mod Places
 pub mod Deciding
 pub mod Lengths
+pub mod Answers
 pub mod Results
 pub mod Fresh

@@ -1,63 +1,46 @@
--- What the calls give, by the numbers and values that their code computes on the way.
+-- What the calls give, by what an engine and the keys' search find in the gateway.
 -- Assumes nothing.
 use mathlib.Core.Path.{_≡_, refl, sym, ap, _∙_}
+use mathlib.Core.Bool.{Bool, true, false, not}
 use mathlib.Core.List.{List}
-use Prim.Native.Nat.{ℕ, zero, suc, _≤_, _<_}
+use Prim.Native.Nat.{ℕ, zero, suc, _<_}
 use native.Mathlib.Omega.{arith}
-use lib.Dec.{leb, ltb}
-use lib.ListN.{length, getD, set, take, replicate, length-append, length-take}
-use lib.Seq.{set-out, set-getD}
-use borrow.Author.Tests.{leb-true, leb-false, ltb-false}
+use lib.Dec.{ltb}
+use lib.ListN.{length, getD, set}
+use lib.Seq.{set-getD}
+use borrow.Author.Tests.{ltb-true, not-false}
 use Rattle.wire.proofs.Booleans.{either}
-use Rattle.wire.specs.Search.{firstPlace}
-use Rattle.wire.specs.Refusals.{_when_otherwise_, refused, unlessRefused}
-use Rattle.wire.specs.Bytes.{withFront}
-use Rattle.wire.specs.Helpers.{overwritten}
-use Rattle.wire.specs.Texts.{ascii, headLength, infoLength, infoBytes, requestLabel}
-use Rattle.wire.specs.declared.refusal.Refusal.{Refusal}
-use Rattle.wire.proofs.Matches.{any-by-place}
-use Rattle.wire.proofs.Writes.{front-first}
-use Rattle.wire.proofs.Numbers.{unless-refused, not-refused}
+use Rattle.wire.specs.Refusals.{_when_otherwise_, unlessRefused, written}
+use Rattle.wire.specs.Texts.{infoLength}
+use Rattle.wire.specs.Search.{anyPasses}
+use Rattle.wire.proofs.Numbers.{not-refused}
 use Rattle.exchange.specs.declared.Exchange.{Exchange}
-use Rattle.exchange.specs.declared.Ticket.{Ticket}
 use Rattle.request.specs.declared.Request.{Request}
-use Rattle.request.specs.declared.Parsed.{Parsed}
-use Rattle.request.specs.Request.{fieldsOf, infoOf}
-use Rattle.request.specs.Helpers.{requestRefusal, noFields, parsed}
-use Rattle.exchange.specs.declared.StepAnswer.{StepAnswer}
-use Rattle.exchange.specs.Exchange.{free, isFree, asked, hasTicket, exchangeOf}
-use Rattle.exchange.specs.Steps.{Step, refusal, next, answer}
-use Rattle.exchange.specs.Moved.{after}
-use Rattle.request.proofs.Requests.{accepted-request, info-of}
+use Rattle.request.specs.Request.{keyIdOf, fieldsOf, infoOf}
+use Rattle.request.specs.Helpers.{requestRefusal}
+use Rattle.exchange.specs.Exchange.{free, isFree}
+use Rattle.exchange.specs.Steps.{Step, refusalBy, refusal, next, answer, buffer}
+use Rattle.exchange.specs.Moved.{ofTicket, after}
 use Rattle.keys.specs.declared.KeyState.{KeyState}
-use Rattle.keys.specs.Keys.{Key, keysOf}
-use Rattle.keys.specs.Helpers.{keyRefusal, retireRefusalAt}
-use Rattle.keys.specs.Stored.{blankKey, usedState, retiredState, changedState, placeOfKey}
+use Rattle.keys.specs.declared.Keys.{Keys}
+use Rattle.keys.specs.Keys.{Key, keyOf, keysOf}
+use Rattle.keys.specs.Helpers.{keyRefusal, retireRefusalAt, given, foundKey}
+use Rattle.keys.specs.Stored.{blankKey, oneMore, usedState, retiredState, changedState, placeOfKey}
 use Rattle.keys.proofs.Arrays.{getD-any}
-use Rattle.keys.proofs.Named.{retire-order}
-use Rattle.keys.proofs.Stored.{unread, place-used}
+use Rattle.keys.proofs.Named.{found-refusal, found-retirement}
+use Rattle.keys.proofs.Stored.{unread, length-keys}
 use Rattle.gateway.specs.declared.Gateway.{Gateway}
+use Rattle.gateway.specs.declared.table.Engine.{Engine}
 use Rattle.gateway.specs.declared.change.Change.{Change}
-use Rattle.gateway.specs.declared.admission.Admission.{Admission}
-use Rattle.gateway.specs.declared.admission.AdmitRefusal.{AdmitRefusal}
 use Rattle.gateway.specs.declared.AdmitAnswer.{AdmitAnswer}
-use Rattle.gateway.specs.declared.RetireAnswer.{RetireAnswer}
-use Rattle.gateway.specs.Registry.{refusalOfAdmit, admission, admitAnswer, retireAnswer, tableSize}
-use Rattle.gateway.specs.Helpers.{_orElse_, roomRefusal, exchangeAt}
-use Rattle.gateway.specs.Gateway.{freePlace, nextTicket, gatewayDoes, gatewayAdmitted, gatewayRetired, gatewayAdmitNumber, gatewayRetireNumber}
-use Rattle.gateway.specs.View.{isFull}
+use Rattle.gateway.specs.Registry.{admitAnswer, retireAnswer, tableSize}
+use Rattle.gateway.specs.Helpers.{_orElse_, roomRefusal, exchangeAt, admitNumber, admittedChange, hasNumber, inside}
+use Rattle.gateway.specs.Gateway.{placeBy, freePlace, pendingWith, nextTicket, gatewayDoes, gatewayAdmitted, gatewayRetired, gatewayAdmitNumber}
+use Rattle.gateway.specs.View.{registryOf, isFull}
 use Rattle.gateway.specs.Change.{changed, Fits}
+use Rattle.gateway.specs.Calls.{Done, admit, retire, onTicket, ofAdmit, ofRetire, ofStep}
 use Rattle.gateway.proofs.Deciding.{none-of-both, admit-order}
-use Rattle.gateway.specs.Calls.{admit, retire, onTicket, ofAdmit, ofRetire, ofStep}
-
--- the answers of a refused retire and of a refused admit
-retire-refused : (n : ℕ) → (n ≡ 0 → ⊥) → RetireAnswer.Refused (refused n) ≡ retireAnswer n
-retire-refused zero h = absurd (h refl)
-retire-refused (suc n) h = refl
-
-admit-refused : (n ticket : ℕ) (request : List ℕ) → (n ≡ 0 → ⊥) → AdmitAnswer.Refused (refusalOfAdmit n) ≡ admitAnswer n ticket request
-admit-refused zero ticket request h = absurd (h refl)
-admit-refused (suc n) ticket request h = refl
+use Rattle.gateway.proofs.Places.{found-own, inside-passes, inside-found}
 
 -- a gateway with an exchange at a place of the table
 abbrev pub withExchange : ℕ → Exchange → Gateway → Gateway
@@ -65,38 +48,47 @@ withExchange place e g =
     record { «last_ticket» = g .«last_ticket»; cap = g .cap; keys = g .keys; table = set (g .table) place e }
 
 -- by a refusal number, where what stood there is put back: as if nothing had been put
-put-back : (n place : ℕ) (new old : Exchange) (g : Gateway) → old ≡ getD (g .table) place free
-    → withExchange place (unlessRefused n new old) g ≡ unlessRefused n (withExchange place new g) g
-put-back zero place new old g e = refl
-put-back (suc n) place new old g e = rw (e, set-getD (g .table) place free)
+put-back : (n place : ℕ) (new : Exchange) (g : Gateway)
+    → withExchange place (unlessRefused n new (getD (g .table) place free)) g ≡ unlessRefused n (withExchange place new g) g
+put-back zero place new g = refl
+put-back (suc n) place new g = rw (set-getD (g .table) place free)
+
+-- a free place refuses every call
+free-refused : (step : Step) (e : Exchange) → isFree e ≡ true → refusal step e ≡ 11
+unfolding refusalBy
+free-refused step e f = rw f refl
+
+-- a call on a ticket, by the place that an engine finds and the exchange there
+module _ (engine : Engine) (g : Gateway) (size : length (g .table) ≡ tableSize) (ticket : ℕ) (step : Step) where
+  abbrev place : ℕ
+  place = inside (placeBy engine ticket (hasNumber ticket) (g .table))
+
+  abbrev there : Exchange
+  there = getD (g .table) place free
+
+  abbrev does : Done Gateway
+  does = gatewayDoes engine g (onTicket ticket step)
+
+  pub stepped : (withExchange place (after ticket step there) g ≡ does .state)
+      × (ofStep (answer step (ofTicket ticket there)) ≡ does .answer) × (buffer step (ofTicket ticket there) ≡ does .buffer)
+  unfolding gatewayDoes
+  stepped =
+      found-own engine ticket (g .table) size
+      (λ own. rw (own .1) (
+        put-back (refusal step there) place (next step there) g ∙ rw (own .0),
+        rw (own .0) refl,
+        rw (own .0) refl,
+      ))
+      (λ none.
+      let e = free-refused step (ofTicket ticket there) (none .0) in
+      let f = free-refused step (pendingWith engine ticket (g .table)) (none .1) in
+      rw (e, f) (put-back 11 place (next step there) g, refl, refl))
 
 -- an exchange put at a place, over a change that changes nothing
-put-at : (g : Gateway) → length (g .table) ≡ tableSize → (change : Change) → Fits change × (changed change g ≡ g) → (place : ℕ) (e : Exchange)
-    → Fits (exchangeAt place e change) × (changed (exchangeAt place e change) g ≡ withExchange place e g)
-unfolding exchangeAt
-put-at g size change same place e =
-    either (leb tableSize place)
-    (λ out. rw out (same .0, same .1 ∙ rw (set-out (g .table) place e (omega (arith, leb-true tableSize place out)))))
-    (λ inside. rw inside (
-      (same .0 .0, leb-false tableSize place inside),
-      ap (λ (h : Gateway). record { «last_ticket» = h .«last_ticket»; cap = h .cap; keys = h .keys; table = set (g .table) place e }) (same .1),
-    ))
-
--- a call on a ticket, by what was found, the change that it makes of one that changes nothing, and the answer
-pub stepped-by : (g : Gateway) → length (g .table) ≡ tableSize → (ticket : ℕ) (step : Step) (nothing : Change) {change : Change} {told : StepAnswer}
-    {place : ℕ} {was : Exchange} → Fits nothing × (changed nothing g ≡ g)
-    → (place ≡ firstPlace (hasTicket ticket) (g .table)) × (was ≡ exchangeOf ticket (g .table))
-    → change ≡ exchangeAt place (after step was) nothing
-    → told ≡ answer step was
-    → Fits change × ((changed change g ≡ gatewayDoes g (onTicket ticket step) .state)
-    × (ofStep told ≡ gatewayDoes g (onTicket ticket step) .answer))
-unfolding gatewayDoes
-stepped-by g size ticket step nothing same found is t =
-    let place = firstPlace (hasTicket ticket) (g .table) in
-    let e = exchangeOf ticket (g .table) in
-    let put = put-at g size nothing same place (after step e) in
-    let back = put-back (refusal step e) place (next step e) e g refl in
-    (rw (is, found .1, found .0) (put .0), (rw (is, found .1, found .0) (put .1 ∙ back), rw (t, found .1)))
+pub put-at : (g : Gateway) (nothing : Change) → changed nothing g ≡ g → (place : ℕ) (e : Exchange)
+    → changed (exchangeAt place e nothing) g ≡ withExchange place e g
+put-at g nothing same place e =
+    ap (λ (h : Gateway). record { «last_ticket» = h .«last_ticket»; cap = h .cap; keys = h .keys; table = set (g .table) place e }) same
 
 -- a change with another key
 abbrev withKey : ℕ → KeyState → Change → Change
@@ -109,132 +101,160 @@ withKey place key change =
       exchange = change .exchange;
     }
 
--- retire, by the place and the number that it finds
-module _ (g : Gateway) (id place number : ℕ) (p : place ≡ placeOfKey id (keysOf (g .keys)))
-    (n : number ≡ retireRefusalAt (keysOf (g .keys)) place) where
-  -- the number is retire's
-  is-number : number ≡ gatewayRetireNumber id g
-  is-number = n ∙ ap (retireRefusalAt (keysOf (g .keys))) p ∙ retire-order id (keysOf (g .keys))
+-- a gateway with a key at a place
+abbrev pub withKeyAt : ℕ → KeyState → Gateway → Gateway
+withKeyAt place key g =
+    record {
+      «last_ticket» = g .«last_ticket»;
+      cap = g .cap;
+      keys = record { list = set (g .keys .list) place key; count = g .keys .count };
+      table = g .table;
+    }
 
-  -- over a change that changes nothing
-  module _ (change : Change) (same : changed change g ≡ g) where
-    -- a refused retire
-    pub not-retired : (r : Refusal) → r ≡ refused number → (number ≡ 0 → ⊥)
-        → (changed change g ≡ gatewayDoes g (retire id) .state) × (ofRetire (RetireAnswer.Refused r) ≡ gatewayDoes g (retire id) .answer)
-    unfolding gatewayDoes
-    not-retired r e h =
-        rw (← is-number, e) (same ∙ unless-refused number (gatewayRetired id g) g h, ap ofRetire (retire-refused number h))
+-- a key that is not refused is there
+retire-there : (there : Bool) (key : Key) → retireRefusalAt (given there key) 0 ≡ 0 → there ≡ true
+unfolding retireRefusalAt
+retire-there true key none = refl
+retire-there false key none = let z : _≡_ {A = ℕ} 4 0 = none in absurd (omega arith)
 
-    -- an accepted one, with the key that was read at the place, retired
-    pub is-retired : number ≡ 0 → length (g .keys .list) ≡ 16 → place < 16
-        → (key : KeyState) → key ≡ retiredState (getD (g .keys .list) place unread)
-        → (changed (withKey place key change) g ≡ gatewayDoes g (retire id) .state)
-        × (ofRetire RetireAnswer.Retired ≡ gatewayDoes g (retire id) .answer)
-    unfolding gatewayDoes
-    is-retired none whole inside key k =
-        let there = getD-any (g .keys .list) place unread blankKey (omega arith) in
-        let keys = changedState retiredState place (g .keys) in
-        rw (← is-number, none, k, there, ← p)
-        (ap (λ (h : Gateway). record { «last_ticket» = h .«last_ticket»; cap = h .cap; keys = keys; table = h .table }) same, refl)
+admit-there : (there : Bool) (key : Key) (cap : ℕ) (request : Request) → keyRefusal cap (given there key) 0 request ≡ 0 → there ≡ true
+unfolding keyRefusal
+admit-there true key cap request none = refl
+admit-there false key cap request none = let z : _≡_ {A = ℕ} 4 0 = none in absurd (omega arith)
 
--- the fields of a request that is refused do not matter
-fields-only-accepted : (q cap : ℕ) (keys : List Key) (f n : Request) (rest : ℕ)
-    → (q orElse keyRefusal cap keys (placeOfKey (unlessRefused q f n .«key_id» .0) keys) (unlessRefused q f n) orElse rest)
-    ≡ (q orElse keyRefusal cap keys (placeOfKey (f .«key_id» .0) keys) f orElse rest)
-fields-only-accepted zero cap keys f n rest = refl
-fields-only-accepted (suc q) cap keys f n rest = refl
+-- a key put at a place, over a change that changes nothing
+pub put-key : (g : Gateway) (nothing : Change) → changed nothing g ≡ g → (place : ℕ) (key : KeyState)
+    → changed (withKey place key nothing) g ≡ withKeyAt place key g
+put-key g nothing same place key =
+    ap (λ (h : Gateway). record { «last_ticket» = h .«last_ticket»; cap = h .cap; keys = withKeyAt place key g .keys; table = h .table }) same
 
--- info at the front of its buffer
-pub info-written : (request info : List ℕ) → headLength ≤ length request → infoLength ≤ length info
-    → overwritten info 0 (infoBytes (overwritten (replicate headLength 0) 0 request)) ≡ withFront (infoOf request) info
-unfolding ascii requestLabel
-info-written request info h l =
-    let size : length (infoOf request) ≡ infoLength = length-append requestLabel (take headLength request) ∙ rw (length-take headLength request) (omega arith) in
-    rw (info-of request h) (front-first (infoOf request) info (omega (arith, size)))
+-- the key that the code finds, and the key that has the id
+module _ (g : Gateway) (whole : length (g .keys .list) ≡ 16) (id : ℕ) where
+  abbrev pub keyPlace : ℕ
+  keyPlace = foundKey id (keysOf (g .keys)) .place
 
--- what admit's code finds: the parsed request, the key's place and its refusal, the place in the table, and the number; and the
--- lengths of the gateway's arrays
-pub record Decided (g : Gateway) (request info : List ℕ) : Type 0 where
-  pub read : Parsed
-  pub keyPlace : ℕ
-  pub byKey : ℕ
-  pub place : ℕ
-  pub number : ℕ
-  pub isRead : read ≡ parsed request
-  pub isKeyPlace : keyPlace ≡ placeOfKey (read .request .«key_id» .0) (keysOf (g .keys))
-  pub isByKey : byKey ≡ keyRefusal (g .cap) (keysOf (g .keys)) keyPlace (read .request)
-  pub isPlace : place ≡ freePlace (g .table)
-  pub size : length (g .table) ≡ tableSize
-  pub whole : length (g .keys .list) ≡ 16
-  pub isNumber : number ≡ (read .refusal orElse byKey orElse roomRefusal (leb tableSize place) (length info))
+  abbrev pub keyThere : Bool
+  keyThere = foundKey id (keysOf (g .keys)) .there
 
-module _ {g : Gateway} {request info : List ℕ} (d : Decided g request info) where
-  -- the table is full where no place was found
-  full-by-place : isFull (g .table) ≡ leb tableSize (d .place)
-  unfolding freePlace
-  full-by-place = rw (d .isPlace, ← d .size) (any-by-place free isFree (g .table))
+  abbrev pub keyFound : KeyState
+  keyFound = getD (g .keys .list) keyPlace unread
+
+  pub key-below : keyPlace < 16
+  key-below =
+      let p = placeOfKey id (keysOf (g .keys)) in
+      either keyThere (λ there. rw there (omega (arith, length-keys (g .keys) whole, ltb-true p (length (keysOf (g .keys))) there)))
+      (λ none. rw none (omega arith))
+
+  -- where it is there, a change of it is the change of the key with the id
+  changed-key : (change : KeyState → KeyState) → keyThere ≡ true
+      → withKeyAt keyPlace (change keyFound) g .keys ≡ changedState change (placeOfKey id (keysOf (g .keys))) (g .keys)
+  changed-key change there =
+      let p = placeOfKey id (keysOf (g .keys)) in
+      let below = ltb-true p (length (keysOf (g .keys))) there in
+      rw (there, getD-any (g .keys .list) p unread blankKey (omega (arith, whole, length-keys (g .keys) whole))) refl
+
+  -- where it is put back, nothing changes
+  same-key : withKeyAt keyPlace keyFound g ≡ g
+  same-key = rw (set-getD (g .keys .list) keyPlace unread)
+
+  -- retire
+  abbrev retireNumber : ℕ
+  retireNumber = retireRefusalAt (given keyThere (keyOf keyFound)) 0
+
+  retired-by : (n : ℕ) → n ≡ retireNumber
+      → withKeyAt keyPlace (unlessRefused n (retiredState keyFound) keyFound) g ≡ unlessRefused n (gatewayRetired id g) g
+  retired-by zero none =
+      ap (λ (keys : Keys). record { «last_ticket» = g .«last_ticket»; cap = g .cap; keys = keys; table = g .table })
+      (changed-key retiredState (retire-there keyThere (keyOf keyFound) (sym none)))
+  retired-by (suc n) none = same-key
+
+  pub retired : (engine : Engine)
+      → (withKeyAt keyPlace (unlessRefused retireNumber (retiredState keyFound) keyFound) g ≡ gatewayDoes engine g (retire id) .state)
+      × (ofRetire (retireAnswer retireNumber) ≡ gatewayDoes engine g (retire id) .answer)
+  unfolding gatewayDoes
+  retired engine = rw (← found-retirement (g .keys) whole id) (retired-by retireNumber refl, refl)
+
+inside-below : (place : ℕ) → inside place < tableSize
+inside-below place = either (ltb place tableSize) (λ there. rw there (ltb-true place tableSize there)) (λ none. rw none (omega arith))
+
+-- what admit reads of a gateway
+abbrev pub admitReads : Engine → List ℕ → Gateway → Change
+admitReads engine request g =
+    let place = inside (freePlace engine (nextTicket g) (g .table)) in
+    let key = foundKey (keyIdOf request) (keysOf (g .keys)) .place in
+    record {
+      «last_ticket» = g .«last_ticket»;
+      «key_place» = key;
+      key = getD (g .keys .list) key unread;
+      place = place;
+      exchange = getD (g .table) place free;
+    }
+
+-- by the places that were found
+pub reads-by : (engine : Engine) (request : List ℕ) (g : Gateway) {key place : ℕ} {e : Exchange} → key ≡ foundKey (keyIdOf request) (keysOf (g .keys)) .place
+    → place ≡ inside (freePlace engine (nextTicket g) (g .table)) → e ≡ getD (g .table) place free
+    → record { «last_ticket» = g .«last_ticket»; «key_place» = key; key = getD (g .keys .list) key unread; place = place; exchange = e }
+    ≡ admitReads engine request g
+reads-by engine request g k p x = rw (x, p, k) refl
+
+module _ (engine : Engine) (g : Gateway) (size : length (g .table) ≡ tableSize) (whole : length (g .keys .list) ≡ 16) (request info : List ℕ) where
+  abbrev was : Change
+  was = admitReads engine request g
+
+  abbrev named : Bool
+  named = foundKey (keyIdOf request) (keysOf (g .keys)) .there
+
+  abbrev n : ℕ
+  n = admitNumber was named (g .cap) request info
 
   -- the number is admit's
-  admit-number : d .number ≡ gatewayAdmitNumber request info g
-  admit-number =
-      d .isNumber ∙ rw (admit-order, d .isByKey, d .isKeyPlace, d .isRead, full-by-place)
-      (fields-only-accepted (requestRefusal request) (g .cap) (keysOf (g .keys)) (fieldsOf request) noFields _)
+  is-number : n ≡ gatewayAdmitNumber request info g
+  is-number =
+      sym (admit-order (registryOf g) (isFull (g .table)) request (length info)
+      ∙ rw (
+        ← found-refusal (g .keys) whole (keyIdOf request) (g .cap) (fieldsOf request),
+        ← inside-passes engine (nextTicket g) isFree (g .table) size,
+      ) refl)
 
-  -- a refused admit, over a change that changes nothing
-  pub not-admitted : (change : Change) → changed change g ≡ g → (r : AdmitRefusal) → r ≡ refusalOfAdmit (d .number) → (d .number ≡ 0 → ⊥)
-      → (changed change g ≡ gatewayDoes g (admit request info) .state)
-      × ((ofAdmit (AdmitAnswer.Refused r) ≡ gatewayDoes g (admit request info) .answer)
-      × (info ≡ gatewayDoes g (admit request info) .buffer))
+  -- where nothing refuses, the key is there, and so is a free place
+  key-there : n ≡ 0 → named ≡ true
+  key-there none =
+      let later = none-of-both (requestRefusal request) _ none .1 in
+      admit-there named (keyOf (was .key)) (g .cap) (fieldsOf request) (none-of-both (keyRefusal (g .cap) (given named (keyOf (was .key))) 0 (fieldsOf request)) _ later .0)
+
+  place-there : n ≡ 0 → anyPasses isFree (g .table) ≡ true
+  place-there none =
+      let later = none-of-both (requestRefusal request) _ none .1 in
+      let room = none-of-both (keyRefusal (g .cap) (given named (keyOf (was .key))) 0 (fieldsOf request)) _ later .1 in
+      sym (inside-passes engine (nextTicket g) isFree (g .table) size)
+      ∙ not-false (isFree (was .exchange)) (not-refused 8 (not (isFree (was .exchange))) (14 when ltb (length info) infoLength otherwise 0) room .0)
+
+  state-by : (m : ℕ) → m ≡ n
+      → changed (unlessRefused m (admittedChange request was) was) g ≡ unlessRefused m (gatewayAdmitted engine request g) g
+  state-by zero none =
+      rw (
+        changed-key g whole (keyIdOf request) usedState (key-there (sym none)),
+        inside-found engine (nextTicket g) isFree (g .table) size (place-there (sym none)),
+      ) refl
+  state-by (suc m) none =
+      rw (set-getD (g .keys .list) (was .«key_place») unread, set-getD (g .table) (was .place) free) refl
+
+  fits-by : (m : ℕ) → Fits (unlessRefused m (admittedChange request was) was)
+  fits-by zero = (key-below g whole (keyIdOf request), inside-below (freePlace engine (nextTicket g) (g .table)))
+  fits-by (suc m) = (key-below g whole (keyIdOf request), inside-below (freePlace engine (nextTicket g) (g .table)))
+
+  pub admitted : Fits (unlessRefused n (admittedChange request was) was)
+      × ((changed (unlessRefused n (admittedChange request was) was) g ≡ gatewayDoes engine g (admit request info) .state)
+      × ((ofAdmit (admitAnswer n (nextTicket g) request) ≡ gatewayDoes engine g (admit request info) .answer)
+      × (written n (infoOf request) info ≡ gatewayDoes engine g (admit request info) .buffer)))
   unfolding gatewayDoes
-  not-admitted change same r e h =
-      rw (← admit-number, e) (
-        same ∙ unless-refused (d .number) (gatewayAdmitted request g) g h,
-        (ap ofAdmit (admit-refused (d .number) (nextTicket g) request h), unless-refused (d .number) _ info h),
-      )
+  admitted = rw (← is-number) (fits-by n, (state-by n refl, (refl, refl)))
 
-  module _ (none : d .number ≡ 0) where
-    -- neither the request nor the key nor the room refuses
-    parts : (d .read .refusal ≡ 0) × (d .byKey ≡ 0) × (roomRefusal (leb tableSize (d .place)) (length info) ≡ 0)
-    parts =
-        let a = none-of-both (d .read .refusal) _ (sym (d .isNumber) ∙ none) in
-        let b = none-of-both (d .byKey) _ (a .1) in
-        (a .0, b .0, b .1)
-
-    -- the request is good
-    request-good : requestRefusal request ≡ 0
-    request-good = sym (ap (λ (p : Parsed). p .refusal) (d .isRead)) ∙ parts .0
-
-    -- so there are a key, a place, room for info, and the request's head
-    pub key-below : d .keyPlace < 16
-    key-below = place-used (g .keys) (d .whole) (g .cap) (d .keyPlace) (d .read .request) (sym (d .isByKey) ∙ parts .1)
-
-    pub place-below : d .place < tableSize
-    place-below =
-        leb-false tableSize (d .place)
-        (not-refused 8 (leb tableSize (d .place)) (14 when ltb (length info) infoLength otherwise 0) (parts .2) .0)
-
-    pub info-fits : infoLength ≤ length info
-    info-fits =
-        ltb-false (length info) infoLength
-        (not-refused 13 (ltb (length info) infoLength) 0 (not-refused 8 (leb tableSize (d .place)) (14 when ltb (length info) infoLength otherwise 0) (parts .2) .1) .0)
-
-    pub head-there : headLength ≤ length request
-    head-there = omega (arith, accepted-request request request-good .1 .0)
-
-    -- what was read are the request's fields
-    fields-read : d .read .request ≡ fieldsOf request
-    fields-read = ap (λ (p : Parsed). p .request) (d .isRead) ∙ rw request-good
-
-    -- an accepted admit
-    pub is-admitted : (ticket : Ticket) (key : KeyState) (e : Exchange) (m : Admission) (buffer : List ℕ)
-        → ticket ≡ record { 0 = nextTicket g } → key ≡ usedState (getD (g .keys .list) (d .keyPlace) unread)
-        → e ≡ asked (ticket .0) (d .read .request) → m ≡ admission (ticket .0) (d .read .request) (length request)
-        → buffer ≡ withFront (infoOf request) info
-        → (changed (record { «last_ticket» = ticket; «key_place» = d .keyPlace; key = key; place = d .place; exchange = e }) g
-        ≡ gatewayDoes g (admit request info) .state)
-        × ((ofAdmit (AdmitAnswer.Admitted m) ≡ gatewayDoes g (admit request info) .answer)
-        × (buffer ≡ gatewayDoes g (admit request info) .buffer))
-    unfolding gatewayDoes
-    is-admitted ticket key e m buffer t k x a b =
-        let there = getD-any (g .keys .list) (d .keyPlace) unread blankKey (omega (arith, key-below)) in
-        rw (← admit-number, none, k, there, x, a, b, t, d .isKeyPlace, d .isPlace, fields-read) (refl, (refl, refl))
+  -- over what the code has read, and what it makes of that
+  pub admitted-by : (read : Change) (there : Bool) {change : Change} {told : AdmitAnswer} {bytes : List ℕ} → read ≡ was → there ≡ named
+      → change ≡ unlessRefused (admitNumber read there (g .cap) request info) (admittedChange request read) read
+      → told ≡ admitAnswer (admitNumber read there (g .cap) request info) (oneMore 64 (read .«last_ticket» .0)) request
+      → bytes ≡ written (admitNumber read there (g .cap) request info) (infoOf request) info
+      → Fits change × ((changed change g ≡ gatewayDoes engine g (admit request info) .state)
+      × ((ofAdmit told ≡ gatewayDoes engine g (admit request info) .answer) × (bytes ≡ gatewayDoes engine g (admit request info) .buffer)))
+  admitted-by read there r t c a b = rw (c, a, b, r, t) admitted

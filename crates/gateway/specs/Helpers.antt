@@ -1,11 +1,19 @@
 -- What only the contracts of functions below the entries cite: a reader of the rules can skip this file.
 use Prim.Native.Nat.{ℕ, zero, suc}
-use mathlib.Core.Bool.{Bool}
-use lib.Dec.{eqb, leb, ltb}
+use mathlib.Core.Bool.{Bool, not}
+use mathlib.Core.List.{List}
+use lib.Dec.{eqb, ltb}
+use lib.ListN.{length}
 use Rattle.wire.specs.Tests.{pick}
 use Rattle.wire.specs.Refusals.{_when_otherwise_}
 use Rattle.wire.specs.Texts.{infoLength}
+use Rattle.request.specs.Request.{fieldsOf}
+use Rattle.request.specs.Helpers.{requestRefusal}
 use Rattle.exchange.specs.declared.Exchange.{Exchange}
+use Rattle.exchange.specs.Exchange.{isFree, asked}
+use Rattle.keys.specs.Keys.{keyOf}
+use Rattle.keys.specs.Stored.{oneMore, usedState}
+use Rattle.keys.specs.Helpers.{given, keyRefusal}
 use Rattle.gateway.specs.declared.change.Change.{Change}
 use Rattle.gateway.specs.Registry.{tableSize}
 
@@ -22,16 +30,29 @@ roomRefusal full room =
     14 when ltb room infoLength otherwise
     0
 
--- a change with another exchange at a place of the table; as it is where there is no such place
-unfoldable pub exchangeAt : ℕ → Exchange → Change → Change
+-- a change with another exchange at a place of the table
+abbrev pub exchangeAt : ℕ → Exchange → Change → Change
 exchangeAt place e change =
-    pick (leb tableSize place) change (record {
-      «last_ticket» = change .«last_ticket»;
-      «key_place» = change .«key_place»;
-      key = change .key;
-      place = place;
-      exchange = e;
-    })
+    record { «last_ticket» = change .«last_ticket»; «key_place» = change .«key_place»; key = change .key; place = place; exchange = e }
+
+-- admit's refusal number, of what is there: the key that the request names, if it is there, and the place for a new exchange
+abbrev pub admitNumber : Change → Bool → ℕ → List ℕ → List ℕ → ℕ
+admitNumber was there cap request info =
+    requestRefusal request
+    orElse keyRefusal cap (given there (keyOf (was .key))) 0 (fieldsOf request)
+    orElse roomRefusal (not (isFree (was .exchange))) (length info)
+
+-- what an accepted admit makes of what is there
+abbrev pub admittedChange : List ℕ → Change → Change
+admittedChange request was =
+    let ticket = oneMore 64 (was .«last_ticket» .0) in
+    record {
+      «last_ticket» = record { 0 = ticket };
+      «key_place» = was .«key_place»;
+      key = usedState (was .key);
+      place = was .place;
+      exchange = asked ticket (fieldsOf request);
+    }
 
 -- the exchange's ticket is this number, which is 0 in a free place
 abbrev pub hasNumber : ℕ → Exchange → Bool

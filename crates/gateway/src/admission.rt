@@ -1,10 +1,9 @@
 // What admit decides and answers.
 ghost use mathlib.Core.Path.{_≡_};
-ghost use lib.Dec.{leb};
+ghost use mathlib.Core.Bool.{not};
 ghost use Rattle.keys.specs.Stored.{oneMore};
-ghost use Rattle.gateway.specs.Registry.{statusOf, isKeyProblem, refusalOfAdmit, admission, tableSize};
+ghost use Rattle.gateway.specs.Registry.{statusOf, isKeyProblem, refusalOfAdmit, admission};
 ghost use Rattle.gateway.specs.Helpers.{_orElse_, roomRefusal};
-use crate::table::TABLE_SIZE;
 use exchange::Ticket;
 use keylist::KeyId;
 use request::Request;
@@ -95,8 +94,8 @@ fn is_key_problem(number: u8) -> bool
 }
 
 // The first refusal: of the request, of its key, of the place in the table, of the room for info.
-pub(crate) fn refusal(by_request: u8, by_key: u8, place: usize, room: usize) -> u8
-    ensures { λ r. ⌜ r ≡ («by_request» orElse «by_key» orElse roomRefusal (leb tableSize place) room) ⌝ }
+pub(crate) fn refusal(by_request: u8, by_key: u8, is_free: bool, room: usize) -> u8
+    ensures { λ r. ⌜ r ≡ («by_request» orElse «by_key» orElse roomRefusal (not «is_free») room) ⌝ }
 {
     if by_request != 0 {
         return by_request;
@@ -104,7 +103,7 @@ pub(crate) fn refusal(by_request: u8, by_key: u8, place: usize, room: usize) -> 
     if by_key != 0 {
         return by_key;
     }
-    if TABLE_SIZE <= place {
+    if !is_free {
         return Refusal::TABLE_FULL;
     }
     if room < texts::INFO_LENGTH {
@@ -114,7 +113,7 @@ pub(crate) fn refusal(by_request: u8, by_key: u8, place: usize, room: usize) -> 
 }
 
 // The ticket after the last one, which stays where it is the largest.
-pub(crate) fn next_ticket(last: Ticket) -> Ticket
+pub fn next_ticket(last: Ticket) -> Ticket
     ensures { λ r. ⌜ r ≡ record { 0 = oneMore 64 (last .0) } ⌝ }
 {
     if last.0 < u64::MAX {

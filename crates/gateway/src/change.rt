@@ -3,11 +3,24 @@
 ghost use mathlib.Core.Path.{_≡_};
 ghost use lib.ListN.{set};
 ghost use Rattle.exchange.specs.Steps.{step, answer, buffer};
-ghost use Rattle.exchange.specs.Moved.{after};
+ghost use Rattle.exchange.specs.Moved.{ofTicket, after};
+ghost use Rattle.request.specs.Request.{infoOf};
+ghost use Rattle.wire.specs.Refusals.{unlessRefused, written};
+ghost use Rattle.keys.specs.Keys.{keyOf};
+ghost use Rattle.keys.specs.Stored.{oneMore, retiredState};
+ghost use Rattle.keys.specs.Helpers.{given, retireRefusalAt};
+ghost use Rattle.gateway.specs.Registry.{admitAnswer, retireAnswer};
 ghost use Rattle.gateway.specs.Change.{changed, Fits};
-ghost use Rattle.gateway.specs.Helpers.{exchangeAt};
+ghost use Rattle.gateway.specs.Helpers.{exchangeAt, admitNumber, admittedChange};
+use crate::AdmitAnswer;
+use crate::AdmitChange;
 use crate::Gateway;
+use crate::RetireAnswer;
 use crate::StepChange;
+use crate::admission;
+use crate::admission::Admission;
+use crate::admission::AdmitRefusal;
+use crate::admission::next_ticket;
 use crate::table::Found;
 use crate::table::TABLE_SIZE;
 use exchange::Exchange;
@@ -16,6 +29,8 @@ use exchange::Ticket;
 use keylist::check::MOST_CONFIGURATIONS;
 use keys::KeyState;
 use keys::Keys;
+use wire::bytes::overwrite;
+use wire::refusal::Refusal;
 
 // The last ticket, a key with its place, and an exchange with its place in the table. Where nothing changes they are what is there.
 pub struct Change {
@@ -24,6 +39,12 @@ pub struct Change {
     pub key: KeyState,
     pub place: usize,
     pub exchange: Exchange,
+}
+
+// What retire leaves of a key, with the answer.
+pub struct KeyRetired {
+    pub key: KeyState,
+    pub answer: RetireAnswer,
 }
 
 // The gateway as it is.
@@ -43,17 +64,60 @@ pub(crate) fn nothing(gateway: Gateway) -> Change
     }
 }
 
-// With an exchange at a place of the table; as it is where there is no such place.
-fn exchange_at(change: Change, place: usize, exchange: Exchange) -> Change
-    ensures { λ r. ⌜ r ≡ exchangeAt place exchange change ⌝ }
+// What admit changes, with the answer, and with info written at the front of its buffer. It is given what is there: the last ticket, the key that the
+// request names, if it is there, and the place for a new exchange, which is free unless the table is full.
+pub fn admit(was: Change, there: bool, cap: u32, request: &[u8], info: &mut [u8]) -> AdmitChange
+    ensures change { λ r. ⌜ r .change ≡ unlessRefused (admitNumber was there cap (now (request .entry)) (now (info .entry)))
+        (admittedChange (now (request .entry)) was) was ⌝ }
+    ensures answer { λ r. ⌜ r .answer ≡ admitAnswer (admitNumber was there cap (now (request .entry)) (now (info .entry)))
+        (oneMore 64 (was .«last_ticket» .0)) (now (request .entry)) ⌝ }
+    ensures buffer { λ r. ⌜ now (info .exit) ≡ written (admitNumber was there cap (now (request .entry)) (now (info .entry)))
+        (infoOf (now (request .entry))) (now (info .entry)) ⌝ }
 {
-    let mut next = change;
-    if TABLE_SIZE <= place {
-        return next;
+    let parsed = request::read(request);
+    let fields = parsed.request;
+    let key = was.key;
+    let exchange = was.exchange;
+    let by_key = key.refusal(there, cap, fields);
+    let number = admission::refusal(parsed.refusal, by_key, exchange.is_free(), info.len());
+    if number != 0 {
+        return AdmitChange {
+            change: was,
+            answer: AdmitAnswer::Refused(AdmitRefusal::of(number)),
+        };
     }
-    next.place = place;
-    next.exchange = exchange;
-    next
+    let front = request::info(request);
+    overwrite(info, 0, &front);
+    let last = was.last_ticket;
+    let ticket = next_ticket(last);
+    AdmitChange {
+        change: Change {
+            last_ticket: ticket,
+            key_place: was.key_place,
+            key: key.used(),
+            place: was.place,
+            exchange: Exchange::asked(ticket, fields),
+        },
+        answer: AdmitAnswer::Admitted(Admission::of(ticket, fields, request.len())),
+    }
+}
+
+// What retire leaves of a key, if it is there, with the answer.
+pub fn retire(key: KeyState, there: bool) -> KeyRetired
+    ensures key { λ r. ⌜ r .key ≡ unlessRefused (retireRefusalAt (given there (keyOf key)) 0) (retiredState key) key ⌝ }
+    ensures answer { λ r. ⌜ r .answer ≡ retireAnswer (retireRefusalAt (given there (keyOf key)) 0) ⌝ }
+{
+    let number = key.retire_refusal(there);
+    if number != 0 {
+        return KeyRetired {
+            key,
+            answer: RetireAnswer::Refused(Refusal::of(number)),
+        };
+    }
+    KeyRetired {
+        key: key.retired(),
+        answer: RetireAnswer::Retired,
+    }
 }
 
 // What a call on a ticket changes, with the answer: it is given the change of nothing, and what the search found. It is not given the gateway or the
@@ -61,24 +125,27 @@ fn exchange_at(change: Change, place: usize, exchange: Exchange) -> Change
 pub(crate) fn step(
     nothing: Change,
     found: Found,
+    ticket: Ticket,
     kind: Move,
     enc: &[u8],
     nonce: &[u8],
     salt: &mut [u8],
 ) -> StepChange
     ensures change { λ r. ⌜ r .change ≡ exchangeAt (found .place)
-        (after (step kind (now (enc .entry)) (now (nonce .entry)) (now (salt .entry))) (found .exchange)) nothing ⌝ }
-    ensures answer { λ r. ⌜ r .answer ≡ answer (step kind (now (enc .entry)) (now (nonce .entry)) (now (salt .entry))) (found .exchange) ⌝ }
-    ensures buffer { λ r. ⌜ now (salt .exit) ≡ buffer (step kind (now (enc .entry)) (now (nonce .entry)) (now (salt .entry))) (found .exchange) ⌝ }
+        (after (ticket .0) (step kind (now (enc .entry)) (now (nonce .entry)) (now (salt .entry))) (found .exchange)) nothing ⌝ }
+    ensures answer { λ r. ⌜ r .answer ≡ answer
+        (step kind (now (enc .entry)) (now (nonce .entry)) (now (salt .entry))) (ofTicket (ticket .0) (found .exchange)) ⌝ }
+    ensures buffer { λ r. ⌜ now (salt .exit) ≡ buffer
+        (step kind (now (enc .entry)) (now (nonce .entry)) (now (salt .entry))) (ofTicket (ticket .0) (found .exchange)) ⌝ }
 {
     let pending = found.exchange;
-    let moved = pending.moved(kind, enc, nonce, salt);
+    let moved = pending.moved(ticket, kind, enc, nonce, salt);
     let exchange = moved.exchange;
     let answer = moved.answer;
-    StepChange {
-        change: exchange_at(nothing, found.place, exchange),
-        answer,
-    }
+    let mut change = nothing;
+    change.place = found.place;
+    change.exchange = exchange;
+    StepChange { change, answer }
 }
 
 // The gateway after a change; what has no place in it is left out.

@@ -2,9 +2,10 @@
 // own answer; a refusal changes nothing. Every entry has an answer for every gateway and every argument.
 ghost use mathlib.Core.Path.{_≡_};
 ghost use mathlib.Core.List.{[]};
-ghost use Rattle.exchange.specs.Steps.{step, bare};
+ghost use Rattle.exchange.specs.Steps.{step};
 ghost use Rattle.keys.specs.Stored.{storedKeys};
 ghost use Rattle.gateway.specs.declared.SetupAnswer.{SetupAnswer};
+ghost use Rattle.gateway.specs.declared.table.Engine.{Engine};
 ghost use Rattle.gateway.specs.Registry.{setup, setupAnswer};
 ghost use Rattle.gateway.specs.Gateway.{emptyGateway, freshGateway, gatewayDoes};
 ghost use Rattle.gateway.specs.Change.{changed, Fits};
@@ -14,10 +15,10 @@ use crate::admission::AdmitRefusal;
 use crate::admission::next_ticket;
 use crate::change::Change;
 use crate::change::nothing;
+use crate::table::Engine;
 use crate::table::TABLE_SIZE;
 use crate::table::count_pending;
 use crate::table::find;
-use crate::table::free_place;
 use exchange::Exchange;
 use exchange::Move;
 use exchange::StepAnswer;
@@ -27,7 +28,7 @@ use keylist::KeyId;
 use keylist::check::MOST_CONFIGURATIONS;
 use keys::KeyReport;
 use keys::Keys;
-use wire::bytes::overwrite;
+use wire::bytes::byte_at;
 use wire::refusal::Refusal;
 
 pub mod admission;
@@ -118,66 +119,35 @@ impl Gateway {
         }
     }
 
-    // Admit: counts the use, gives the next ticket and writes info at the front of its buffer.
-    pub fn admit(self, request: &[u8], info: &mut [u8]) -> AdmitChange
+    // Admit, by an engine: counts the use, gives the next ticket and writes info at the front of its buffer.
+    pub fn admit(self, engine: Engine, request: &[u8], info: &mut [u8]) -> AdmitChange
         ensures fits { λ r. ⌜ Fits (r .change) ⌝ }
-        ensures gateway { λ r. ⌜ changed (r .change) self ≡ gatewayDoes self (admit (now (request .entry)) (now (info .entry))) .state ⌝ }
-        ensures answer { λ r. ⌜ ofAdmit (r .answer) ≡ gatewayDoes self (admit (now (request .entry)) (now (info .entry))) .answer ⌝ }
-        ensures buffer { λ r. ⌜ now (info .exit) ≡ gatewayDoes self (admit (now (request .entry)) (now (info .entry))) .buffer ⌝ }
+        ensures gateway { λ r. ⌜ changed (r .change) self ≡ gatewayDoes engine self (admit (now (request .entry)) (now (info .entry))) .state ⌝ }
+        ensures answer { λ r. ⌜ ofAdmit (r .answer) ≡ gatewayDoes engine self (admit (now (request .entry)) (now (info .entry))) .answer ⌝ }
+        ensures buffer { λ r. ⌜ now (info .exit) ≡ gatewayDoes engine self (admit (now (request .entry)) (now (info .entry))) .buffer ⌝ }
     {
-        let parsed = request::read(request);
-        let fields = parsed.request;
         let keys = self.keys;
-        let key_id = fields.key_id;
-        let key_place = keys.find(key_id);
+        let key = keys.find(KeyId(byte_at(request, 0)));
+        let key_place = key.place;
+        let last_ticket = self.last_ticket;
+        let next = next_ticket(last_ticket);
         let table = self.table;
-        let place = free_place(table);
-        let by_key = keys.refusal(key_place, self.cap, fields);
-        let number = admission::refusal(parsed.refusal, by_key, place, info.len());
-        if number != 0 {
-            return AdmitChange {
-                change: nothing(self),
-                answer: AdmitAnswer::Refused(AdmitRefusal::of(number)),
-            };
-        }
-        let front = request::info(request);
-        overwrite(info, 0, &front);
-        let last = self.last_ticket;
-        let ticket = next_ticket(last);
-        let key = keys.list[key_place];
-        AdmitChange {
-            change: Change {
-                last_ticket: ticket,
-                key_place,
-                key: key.used(),
-                place,
-                exchange: Exchange::asked(ticket, fields),
-            },
-            answer: AdmitAnswer::Admitted(Admission::of(ticket, fields, request.len())),
-        }
+        let found = find(table, engine, 0, next.0);
+        let exchange = found.exchange;
+        let was = Change {
+            last_ticket,
+            key_place,
+            key: keys.list[key_place],
+            place: found.place,
+            exchange,
+        };
+        change::admit(was, key.there, self.cap, request, info)
     }
 
-    // A call on a ticket that brings no bytes, as open result and abandon.
-    pub fn step(self, ticket: Ticket, kind: Move) -> StepChange
-        ensures fits { λ r. ⌜ Fits (r .change) ⌝ }
-        ensures gateway { λ r. ⌜ changed (r .change) self ≡ gatewayDoes self (onTicket (ticket .0) (bare kind)) .state ⌝ }
-        ensures answer { λ r. ⌜ ofStep (r .answer) ≡ gatewayDoes self (onTicket (ticket .0) (bare kind)) .answer ⌝ }
-    {
-        let mut salt = [0u8; 0];
-        let table = self.table;
-        change::step(
-            nothing(self),
-            find(table, ticket),
-            kind,
-            &[],
-            &[],
-            &mut salt,
-        )
-    }
-
-    // A call on a ticket with the bytes that it brings, as respond does: enc and nonce are written at the front of the salt buffer.
-    pub fn step_with(
+    // A call on a ticket, by an engine, with the bytes that it brings, as respond does: enc and nonce are written at the front of the salt buffer.
+    pub fn step(
         self,
+        engine: Engine,
         ticket: Ticket,
         kind: Move,
         enc: &[u8],
@@ -185,46 +155,40 @@ impl Gateway {
         salt: &mut [u8],
     ) -> StepChange
         ensures fits { λ r. ⌜ Fits (r .change) ⌝ }
-        ensures gateway { λ r. ⌜ changed (r .change) self ≡ gatewayDoes self
+        ensures gateway { λ r. ⌜ changed (r .change) self ≡ gatewayDoes engine self
             (onTicket (ticket .0) (step kind (now (enc .entry)) (now (nonce .entry)) (now (salt .entry)))) .state ⌝ }
-        ensures answer { λ r. ⌜ ofStep (r .answer) ≡ gatewayDoes self
+        ensures answer { λ r. ⌜ ofStep (r .answer) ≡ gatewayDoes engine self
             (onTicket (ticket .0) (step kind (now (enc .entry)) (now (nonce .entry)) (now (salt .entry)))) .answer ⌝ }
-        ensures buffer { λ r. ⌜ now (salt .exit) ≡ gatewayDoes self
+        ensures buffer { λ r. ⌜ now (salt .exit) ≡ gatewayDoes engine self
             (onTicket (ticket .0) (step kind (now (enc .entry)) (now (nonce .entry)) (now (salt .entry)))) .buffer ⌝ }
     {
         let table = self.table;
-        change::step(nothing(self), find(table, ticket), kind, enc, nonce, salt)
+        let found = find(table, engine, ticket.0, ticket.0);
+        change::step(nothing(self), found, ticket, kind, enc, nonce, salt)
     }
 
-    // Retire: later admissions refuse the key; pending exchanges go on.
+    // Retire: later admissions refuse the key; pending exchanges go on. The engines do not differ in it.
     pub fn retire(self, id: KeyId) -> RetireChange
         ensures fits { λ r. ⌜ Fits (r .change) ⌝ }
-        ensures gateway { λ r. ⌜ changed (r .change) self ≡ gatewayDoes self (retire (id .0)) .state ⌝ }
-        ensures answer { λ r. ⌜ ofRetire (r .answer) ≡ gatewayDoes self (retire (id .0)) .answer ⌝ }
+        ensures gateway { λ r. ⌜ ((engine : Engine) → changed (r .change) self ≡ gatewayDoes engine self (retire (id .0)) .state) ⌝ }
+        ensures answer { λ r. ⌜ ((engine : Engine) → ofRetire (r .answer) ≡ gatewayDoes engine self (retire (id .0)) .answer) ⌝ }
     {
         let keys = self.keys;
-        let key_place = keys.find(id);
-        let number = keys.retire_refusal(key_place);
-        if number != 0 {
-            return RetireChange {
-                change: nothing(self),
-                answer: RetireAnswer::Refused(Refusal::of(number)),
-            };
-        }
-        let key = keys.list[key_place];
+        let key = keys.find(id);
+        let key_place = key.place;
+        let done = change::retire(keys.list[key_place], key.there);
+        let state = done.key;
+        let answer = done.answer;
         let mut change = nothing(self);
         change.key_place = key_place;
-        change.key = key.retired();
-        RetireChange {
-            change,
-            answer: RetireAnswer::Retired,
-        }
+        change.key = state;
+        RetireChange { change, answer }
     }
 
     // Report: last ticket, number pending, and each key's count and retirement. The gateway is as it was.
     pub fn report(self) -> Report
-        ensures gateway { λ r. ⌜ self ≡ gatewayDoes self reporting .state ⌝ }
-        ensures answer { λ r. ⌜ ofReport r ≡ gatewayDoes self reporting .answer ⌝ }
+        ensures gateway { λ r. ⌜ ((engine : Engine) → self ≡ gatewayDoes engine self reporting .state) ⌝ }
+        ensures answer { λ r. ⌜ ((engine : Engine) → ofReport r ≡ gatewayDoes engine self reporting .answer) ⌝ }
     {
         let keys = self.keys;
         let table = self.table;

@@ -1,33 +1,24 @@
-// The table of pending exchanges.
+// The table of pending exchanges, and the engines that search it.
 ghost use mathlib.Core.Path.{_≡_};
 ghost use mathlib.Core.List.{[], _∷_};
-ghost use Prim.Native.Nat.{_≤_};
-ghost use lib.ListN.{length};
-ghost use Rattle.exchange.specs.Exchange.{free, exchangeOf};
-ghost use Rattle.gateway.specs.Gateway.{freePlace, placeOfTicket};
+ghost use Prim.Native.Nat.{_≤_, _<_};
+ghost use lib.ListN.{length, getD};
+ghost use Rattle.wire.specs.Search.{firstPlace};
+ghost use Rattle.exchange.specs.Exchange.{free};
+ghost use Rattle.gateway.specs.Gateway.{placeBy};
+ghost use Rattle.gateway.specs.Helpers.{hasNumber, inside};
 ghost use Rattle.gateway.specs.View.{pendingIn};
 ghost use Rattle.gateway.specs.Registry.{tableSize};
 use exchange::Exchange;
-use exchange::Ticket;
 
 // The places of the table.
 pub const TABLE_SIZE: usize = 128;
 
-// The place for a new exchange; the table's size where none is free. Callers are also told the table's size, which the contract
-// of a function that takes the whole gateway does not show.
-pub(crate) fn free_place(table: [Exchange; TABLE_SIZE]) -> usize
-    ensures place { λ r. ⌜ r ≡ freePlace table ⌝ }
-    ensures size { λ r. ⌜ length table ≡ tableSize ⌝ }
-{
-    let mut at = 0;
-    while at < TABLE_SIZE {
-        let exchange = table[at];
-        if exchange.is_free() {
-            return at;
-        }
-        at += 1;
-    }
-    at
+// How a ticket and a free place are searched (A10). The fast engine, which hosts use, looks first at the home of a ticket, the place
+// `ticket % 128`; the plain one walks over the table.
+pub enum Engine {
+    Fast,
+    Plain,
 }
 
 // A place of the table and the exchange there.
@@ -36,34 +27,60 @@ pub(crate) struct Found {
     pub exchange: Exchange,
 }
 
-// The pending exchange with a ticket and its place; a free one and the table's size where none has it.
-pub(crate) fn find(table: [Exchange; TABLE_SIZE], ticket: Ticket) -> Found
-    ensures place { λ r. ⌜ r .place ≡ placeOfTicket (ticket .0) table ⌝ }
-    ensures exchange { λ r. ⌜ r .exchange ≡ exchangeOf (ticket .0) table ⌝ }
+// What an engine finds, near a ticket's home, of the exchanges whose ticket is a number, which is 0 in a free place; the first place and what is
+// there where it finds none.
+pub(crate) fn find(table: [Exchange; TABLE_SIZE], engine: Engine, number: u64, near: u64) -> Found
+    ensures place { λ r. ⌜ r .place ≡ inside (placeBy engine near (hasNumber number) table) ⌝ }
+    ensures exchange { λ r. ⌜ r .exchange ≡ getD table (r .place) free ⌝ }
+    ensures below { λ r. ⌜ r .place < tableSize ⌝ }
 {
-    if ticket.0 == 0 {
-        return nothing_found();
+    let place = inside(place_by(table, engine, number, near));
+    Found {
+        place,
+        exchange: table[place],
     }
+}
+
+// A place that a search found; the first one where it found none.
+pub fn inside(place: usize) -> usize
+    ensures place { λ r. ⌜ r ≡ inside place ⌝ }
+    ensures below { λ r. ⌜ r < tableSize ⌝ }
+{
+    if place < TABLE_SIZE { place } else { 0 }
+}
+
+// The same, with the table's size where none is found.
+fn place_by(table: [Exchange; TABLE_SIZE], engine: Engine, number: u64, near: u64) -> usize
+    ensures { λ r. ⌜ r ≡ placeBy engine near (hasNumber number) table ⌝ }
+{
+    match engine {
+        Engine::Fast => place_near(table, number, near),
+        Engine::Plain => first_with(table, number),
+    }
+}
+
+fn place_near(table: [Exchange; TABLE_SIZE], number: u64, near: u64) -> usize
+    ensures { λ r. ⌜ r ≡ placeBy Engine.Fast near (hasNumber number) table ⌝ }
+{
+    let home = (near % 128) as usize;
+    if table[home].ticket.0 == number {
+        return home;
+    }
+    first_with(table, number)
+}
+
+// A walk over the table.
+fn first_with(table: [Exchange; TABLE_SIZE], number: u64) -> usize
+    ensures { λ r. ⌜ r ≡ firstPlace (hasNumber number) table ⌝ }
+{
     let mut at = 0;
     while at < TABLE_SIZE {
-        if table[at].ticket.0 == ticket.0 {
-            return Found {
-                place: at,
-                exchange: table[at],
-            };
+        if table[at].ticket.0 == number {
+            return at;
         }
         at += 1;
     }
-    nothing_found()
-}
-
-fn nothing_found() -> Found
-    ensures { λ r. ⌜ r ≡ record { place = tableSize; exchange = free } ⌝ }
-{
-    Found {
-        place: TABLE_SIZE,
-        exchange: Exchange::free(),
-    }
+    at
 }
 
 // The number of pending exchanges.

@@ -1,21 +1,24 @@
 -- A key by its id, and by its place, where the code has it: the refusals that it decides, and the keys with it changed.
 -- Assumes nothing.
-use mathlib.Core.Path.{_≡_, refl, ap}
-use mathlib.Core.Bool.{not}
+use mathlib.Core.Path.{_≡_, refl, sym, ap, _∙_}
+use mathlib.Core.Bool.{true, not}
 use mathlib.Core.List.{List, [], _∷_}
 use mathlib.Core.Option.{Option}
 use Prim.Native.Nat.{ℕ}
-use borrow.Author.Tests.{leb-true, leb-false}
-use lib.Dec.{eqb, leb}
-use lib.ListN.{length, set}
+use borrow.Author.Tests.{leb-true, leb-false, le-leb, lt-leb, ltb-true, ltb-false}
+use lib.Dec.{eqb, leb, ltb}
+use lib.ListN.{length, getD, set}
 use Rattle.wire.specs.Search.{firstPlace, isNone, isSomeAnd}
 use Rattle.wire.specs.Refusals.{_when_otherwise_}
-use Rattle.wire.proofs.Booleans.{either}
+use Rattle.wire.proofs.Booleans.{either, true-or-false}
 use Rattle.wire.proofs.Matches.{that-inside, that-outside}
 use Rattle.request.specs.declared.Request.{Request}
-use Rattle.keys.specs.Keys.{Key, hasId, keyWith, offers, retireRefusal, withKey}
-use Rattle.keys.specs.Helpers.{noKey, keyAt, keyRefusal, retireRefusalAt}
+use Rattle.keys.specs.declared.Keys.{Keys}
+use Rattle.keys.specs.declared.KeyState.{KeyState}
+use Rattle.keys.specs.Keys.{Key, hasId, keyWith, offers, retireRefusal, withKey, keyOf, keysOf}
+use Rattle.keys.specs.Helpers.{noKey, keyAt, keyRefusal, retireRefusalAt, given, foundKey}
 use Rattle.keys.specs.Stored.{placeOfKey}
+use Rattle.keys.proofs.Stored.{unread, key-at}
 
 -- the keys with the one at a place changed
 abbrev pub changedAt : (Key → Key) → ℕ → List Key → List Key
@@ -52,3 +55,33 @@ module _ (id : ℕ) (keys : List Key) where
       either (leb (length keys) (placeOfKey id keys))
       (λ out. rw (out, that-outside noKey (hasId id) keys (leb-true _ _ out)))
       (λ inside. rw (inside, that-inside noKey (hasId id) keys (leb-false _ _ inside)))
+
+-- a key as the code finds it, and what the key at its place decides
+module _ (keys : Keys) (whole : length (keys .list) ≡ 16) (id : ℕ) where
+  abbrev found : KeyState
+  found = getD (keys .list) (foundKey id (keysOf keys) .place) unread
+
+  -- whether there is one, and the key
+  told : (leb (length (given (foundKey id (keysOf keys) .there) (keyOf found))) 0 ≡ leb (length (keysOf keys)) (placeOfKey id (keysOf keys)))
+      × (foundKey id (keysOf keys) .there ≡ true → keyOf found ≡ keyAt (keysOf keys) (placeOfKey id (keysOf keys)))
+  told =
+      let place = placeOfKey id (keysOf keys) in
+      let number = length (keysOf keys) in
+      either (ltb place number)
+      (λ there. rw (there, lt-leb number place (ltb-true place number there)) (refl, λ _. sym (key-at keys whole place (ltb-true place number there))))
+      (λ none. rw (none, le-leb number place (ltb-false place number none)) (refl, λ there. absurd (true-or-false there refl)))
+
+  pub found-refusal : (cap : ℕ) (request : Request)
+      → keyRefusal cap (given (foundKey id (keysOf keys) .there) (keyOf found)) 0 request
+      ≡ keyRefusal cap (keysOf keys) (placeOfKey id (keysOf keys)) request
+  unfolding keyRefusal
+  found-refusal cap request =
+      either (foundKey id (keysOf keys) .there) (λ there. rw (← told .0, ← told .1 there, there)) (λ none. rw (← told .0, none))
+
+  found-at-place : retireRefusalAt (given (foundKey id (keysOf keys) .there) (keyOf found)) 0
+      ≡ retireRefusalAt (keysOf keys) (placeOfKey id (keysOf keys))
+  unfolding retireRefusalAt
+  found-at-place = either (foundKey id (keysOf keys) .there) (λ there. rw (← told .0, ← told .1 there, there)) (λ none. rw (← told .0, none))
+
+  pub found-retirement : retireRefusalAt (given (foundKey id (keysOf keys) .there) (keyOf found)) 0 ≡ retireRefusal (keyWith id (keysOf keys))
+  found-retirement = found-at-place ∙ retire-order id (keysOf keys)
