@@ -12,8 +12,7 @@ use Rattle.gateway.specs.declared.Report.{Report}
 use Rattle.gateway.specs.declared.admission.Admission.{Admission}
 use Rattle.gateway.specs.declared.admission.AdmitRefusal.{AdmitRefusal}
 use Rattle.gateway.specs.declared.Gateway.{Gateway}
-use Rattle.gateway.specs.declared.change.Change.{Change}
-use Rattle.gateway.specs.Change.{changed, Fits}
+use Rattle.gateway.specs.declared.table.Engine.{Engine}
 use Rattle.gateway.specs.Calls.{Call, Answer, ofAdmit, ofRetire, ofStep, ofReport}
 use Rattle.gateway.specs.Gateway.{gatewayDoes}
 use Rattle.results.specs.declared.outcome.Outcome.{Outcome}
@@ -116,13 +115,9 @@ reportResult answer =
       keys = reportIn answer .keys;
     }
 
--- a call on the gateway in the host's memory: what gateway and result are after it, and the buffer that it lends, where it lends one
-abbrev pub Does : {R : Type 0} → (Answer → R) → Call → Gateway → Gateway → R → List ℕ → Type 0
-Does result call before after r buffer =
-    (after ≡ gatewayDoes before call .state)
-    × (r ≡ result (gatewayDoes before call .answer))
-    × (buffer ≡ gatewayDoes before call .buffer)
-
--- the same, said by what changes of the gateway
-abbrev pub Changes : {R : Type 0} → (Answer → R) → Call → Gateway → Change → R → List ℕ → Type 0
-Changes result call before change r buffer = Fits change × Does result call before (changed change before) r buffer
+-- a call on the gateway in the host's memory, by an engine: what gateway and result are after it, and the buffer that it lends, where it lends one
+abbrev pub Does : {R : Type 0} → Engine → (Answer → R) → Call → Gateway → Gateway → R → List ℕ → Type 0
+Does engine result call before after r buffer =
+    (after ≡ gatewayDoes engine before call .state)
+    × (r ≡ result (gatewayDoes engine before call .answer))
+    × (buffer ≡ gatewayDoes engine before call .buffer)

@@ -3,3 +3,4 @@ pub mod Outcome
 pub mod Calls
 pub mod Lists
 pub mod Client
+pub mod Helpers

@@ -1,15 +1,25 @@
-// Setup and the six calls, as hosts get them: each answers a plain struct, and those that change the gateway what they change.
+// Setup and the six calls, as hosts get them: each answers a plain struct. Those that change the gateway are given what they read of it, and answer what
+// they change.
 ghost use mathlib.Core.Path.{_≡_};
+ghost use Prim.Native.Nat.{_<_};
 ghost use mathlib.Core.Bool.{not};
 ghost use mathlib.Core.List.{[]};
 ghost use lib.Dec.{eqb};
+ghost use Rattle.keylist.specs.Layout.{mostConfigurations};
+ghost use Rattle.request.specs.Request.{keyIdOf};
 ghost use Rattle.exchange.specs.Steps.{step, bare, openResult, respond, abandon};
+ghost use Rattle.keys.specs.Keys.{keysOf};
+ghost use Rattle.keys.specs.Stored.{oneMore};
+ghost use Rattle.keys.specs.Helpers.{foundKey};
+ghost use Rattle.gateway.specs.declared.table.Engine.{Engine};
 ghost use Rattle.gateway.specs.Registry.{setup, setupAnswer};
 ghost use Rattle.gateway.specs.Gateway.{freshGateway};
-ghost use Rattle.gateway.specs.Calls.{admit, retire, onTicket, reporting, ofAdmit, ofRetire};
-ghost use Rattle.results.specs.Calls.{Does, Changes, ticketResult, outcomeOf, problemType, setupResult, admitResult, stepResult, reportResult};
+ghost use Rattle.gateway.specs.Calls.{reporting, ofAdmit, ofRetire};
+ghost use Rattle.results.specs.Calls.{Does, ticketResult, outcomeOf, problemType, setupResult, admitResult, stepResult, reportResult};
+ghost use Rattle.results.specs.Helpers.{Admits, Moves, Retires};
 use crate::outcome::NumberResult;
 use crate::outcome::Outcome;
+use exchange::Exchange;
 use exchange::Move;
 use exchange::StepAnswer;
 use exchange::Ticket;
@@ -17,10 +27,16 @@ use gateway::AdmitAnswer;
 use gateway::Gateway;
 use gateway::RetireAnswer;
 use gateway::SetupAnswer;
+use gateway::admission;
+use gateway::change;
 use gateway::change::Change;
 use keylist::KeyId;
 use keylist::check::MOST_CONFIGURATIONS;
+use keys::KeyPlace;
 use keys::KeyReport;
+use keys::KeyState;
+use keys::Keys;
+use wire::bytes::byte_at;
 
 // An admission: its ticket, where its parts start and end in the request, its pair and its key.
 #[repr(C)]
@@ -52,19 +68,26 @@ pub struct SetupDone {
     pub result: NumberResult,
 }
 
-// What a call changes of the gateway, with the result.
+// What admit changes of the gateway, with the result.
 pub struct AdmitDone {
     pub change: Change,
     pub result: AdmitResult,
 }
 
+// What a call on a ticket leaves of the exchange, with the result.
 pub struct StepDone {
-    pub change: Change,
+    pub exchange: Exchange,
     pub result: NumberResult,
 }
 
-pub struct OutcomeDone {
-    pub change: Change,
+pub struct AbandonDone {
+    pub exchange: Exchange,
+    pub result: Outcome,
+}
+
+// What retire leaves of the key, with the result.
+pub struct RetireDone {
+    pub key: KeyState,
     pub result: Outcome,
 }
 
@@ -82,12 +105,54 @@ pub fn setup(list: &[u8], cap: u64) -> SetupDone
     }
 }
 
-// Admit: counts the use, gives the next ticket and writes info at the front of its buffer.
-pub fn admit(gateway: Gateway, request: &[u8], info: &mut [u8]) -> AdmitDone
-    ensures { λ r. ⌜ Changes admitResult (admit (now (request .entry)) (now (info .entry)))
-        gateway (r .change) (r .result) (now (info .exit)) ⌝ }
+// The key that a request names.
+pub fn named_key(keys: Keys, request: &[u8]) -> KeyPlace
+    ensures place { λ r. ⌜ r ≡ foundKey (keyIdOf (now (request .entry))) (keysOf keys) ⌝ }
+    ensures inside { λ r. ⌜ r .place < mostConfigurations ⌝ }
 {
-    let done = gateway.admit(request, info);
+    keys.find(KeyId(byte_at(request, 0)))
+}
+
+// The key with an id.
+pub fn key_with(keys: Keys, key_id: u8) -> KeyPlace
+    ensures place { λ r. ⌜ r ≡ foundKey «key_id» (keysOf keys) ⌝ }
+    ensures inside { λ r. ⌜ r .place < mostConfigurations ⌝ }
+{
+    keys.find(KeyId(key_id))
+}
+
+// The ticket that the next admission gets.
+pub fn next_ticket(last_ticket: Ticket) -> u64
+    ensures { λ r. ⌜ r ≡ oneMore 64 («last_ticket» .0) ⌝ }
+{
+    let next = admission::next_ticket(last_ticket);
+    next.0
+}
+
+// Admit: counts the use, gives the next ticket and writes info at the front of its buffer. It is given what it reads of the gateway: last ticket,
+// cap, the key that the request names, if it is there, and a place for the exchange, with what stands there.
+pub fn admit(
+    last_ticket: Ticket,
+    cap: u32,
+    there: bool,
+    key_place: usize,
+    key: KeyState,
+    place: usize,
+    exchange: Exchange,
+    request: &[u8],
+    info: &mut [u8],
+) -> AdmitDone
+    ensures { λ r. ⌜ Admits (record { «last_ticket» = «last_ticket»; «key_place» = «key_place»; key = key; place = place; exchange = exchange })
+        there cap (now (request .entry)) (now (info .entry)) (r .change) (r .result) (now (info .exit)) ⌝ }
+{
+    let was = Change {
+        last_ticket,
+        key_place,
+        key,
+        place,
+        exchange,
+    };
+    let done = change::admit(was, there, cap, request, info);
     let change = done.change;
     let answer = done.answer;
     AdmitDone {
@@ -96,62 +161,41 @@ pub fn admit(gateway: Gateway, request: &[u8], info: &mut [u8]) -> AdmitDone
     }
 }
 
-// A call on a ticket, with the bytes that it brings.
-pub fn step(
-    gateway: Gateway,
+// A call on a ticket, with the bytes that it brings. It is given the exchange at the place where the ticket was searched.
+fn step(
+    there: Exchange,
     ticket: u64,
     kind: Move,
     enc: &[u8],
     nonce: &[u8],
     salt: &mut [u8],
 ) -> StepDone
-    ensures { λ r. ⌜ Changes stepResult (onTicket ticket (step kind (now (enc .entry)) (now (nonce .entry)) (now (salt .entry))))
-        gateway (r .change) (r .result) (now (salt .exit)) ⌝ }
+    ensures { λ r. ⌜ Moves stepResult ticket (step kind (now (enc .entry)) (now (nonce .entry)) (now (salt .entry)))
+        there (r .exchange) (r .result) (now (salt .exit)) ⌝ }
 {
-    let done = gateway.step_with(Ticket(ticket), kind, enc, nonce, salt);
-    let change = done.change;
-    let answer = done.answer;
+    let moved = there.moved(Ticket(ticket), kind, enc, nonce, salt);
+    let exchange = moved.exchange;
+    let answer = moved.answer;
     StepDone {
-        change,
+        exchange,
         result: step_result(answer),
     }
 }
 
 // A call on a ticket that brings no bytes.
-fn bare_step(gateway: Gateway, ticket: u64, kind: Move) -> StepDone
-    ensures { λ r. ⌜ Changes stepResult (onTicket ticket (bare kind)) gateway (r .change) (r .result) [] ⌝ }
+fn bare_step(there: Exchange, ticket: u64, kind: Move) -> StepDone
+    ensures { λ r. ⌜ Moves stepResult ticket (bare kind) there (r .exchange) (r .result) [] ⌝ }
 {
-    let done = gateway.step(Ticket(ticket), kind);
-    let change = done.change;
-    let answer = done.answer;
-    StepDone {
-        change,
-        result: step_result(answer),
-    }
-}
-
-// The same for a host that is told no number.
-fn bare_outcome(gateway: Gateway, ticket: u64, kind: Move) -> OutcomeDone
-    ensures { λ r. ⌜ Changes outcomeOf (onTicket ticket (bare kind)) gateway (r .change) (r .result) [] ⌝ }
-{
-    let done = gateway.step(Ticket(ticket), kind);
-    let change = done.change;
-    let answer = done.answer;
-    let result = step_result(answer);
-    let outcome = result.outcome;
-    OutcomeDone {
-        change,
-        result: outcome,
-    }
+    let mut salt = [0u8; 0];
+    step(there, ticket, kind, &[], &[], &mut salt)
 }
 
 // Open result: `success` is 0 where the host could not open the request, and any other number where it opened n bytes. The number is 1 where
 // the exchange is opened now.
-pub fn open(gateway: Gateway, ticket: u64, success: u8, n: u64) -> StepDone
-    ensures { λ r. ⌜ Changes stepResult (onTicket ticket (openResult (not (eqb success 0)) n))
-        gateway (r .change) (r .result) [] ⌝ }
+pub fn open(there: Exchange, ticket: u64, success: u8, n: u64) -> StepDone
+    ensures { λ r. ⌜ Moves stepResult ticket (openResult (not (eqb success 0)) n) there (r .exchange) (r .result) [] ⌝ }
 {
-    bare_step(gateway, ticket, opening(success, n))
+    bare_step(there, ticket, opening(success, n))
 }
 
 fn opening(success: u8, n: u64) -> Move
@@ -166,42 +210,49 @@ fn opening(success: u8, n: u64) -> Move
 
 // Respond: the salt is written at the front of its buffer, and the exchange is closed. The number is the length of the encapsulated response.
 pub fn respond(
-    gateway: Gateway,
+    there: Exchange,
     ticket: u64,
     enc: &[u8],
     nonce: &[u8],
     plain: u64,
     salt: &mut [u8],
 ) -> StepDone
-    ensures { λ r. ⌜ Changes stepResult (onTicket ticket (respond (now (enc .entry)) (now (nonce .entry)) plain (now (salt .entry))))
-        gateway (r .change) (r .result) (now (salt .exit)) ⌝ }
+    ensures { λ r. ⌜ Moves stepResult ticket (respond (now (enc .entry)) (now (nonce .entry)) plain (now (salt .entry)))
+        there (r .exchange) (r .result) (now (salt .exit)) ⌝ }
 {
-    step(gateway, ticket, Move::Respond(plain), enc, nonce, salt)
+    step(there, ticket, Move::Respond(plain), enc, nonce, salt)
 }
 
 // Abandon: closed, and no reply is sent.
-pub fn abandon(gateway: Gateway, ticket: u64) -> OutcomeDone
-    ensures { λ r. ⌜ Changes outcomeOf (onTicket ticket abandon) gateway (r .change) (r .result) [] ⌝ }
+pub fn abandon(there: Exchange, ticket: u64) -> AbandonDone
+    ensures { λ r. ⌜ Moves outcomeOf ticket abandon there (r .exchange) (r .result) [] ⌝ }
 {
-    bare_outcome(gateway, ticket, Move::Abandon)
+    let done = bare_step(there, ticket, Move::Abandon);
+    let exchange = done.exchange;
+    let result = done.result;
+    let outcome = result.outcome;
+    AbandonDone {
+        exchange,
+        result: outcome,
+    }
 }
 
-// Retire: later admissions refuse the key; pending exchanges go on.
-pub fn retire(gateway: Gateway, key_id: u8) -> OutcomeDone
-    ensures { λ r. ⌜ Changes outcomeOf (retire «key_id») gateway (r .change) (r .result) [] ⌝ }
+// Retire: later admissions refuse the key; pending exchanges go on. It is given the key, if it is there.
+pub fn retire(key: KeyState, there: bool) -> RetireDone
+    ensures { λ r. ⌜ Retires key there (r .key) (r .result) ⌝ }
 {
-    let done = gateway.retire(KeyId(key_id));
-    let change = done.change;
+    let done = change::retire(key, there);
+    let state = done.key;
     let answer = done.answer;
-    OutcomeDone {
-        change,
+    RetireDone {
+        key: state,
         result: retire_result(answer),
     }
 }
 
 // Report: last ticket, number pending, and each key's count and retirement. Nothing changes.
 pub fn report(gateway: Gateway) -> ReportResult
-    ensures { λ r. ⌜ Does reportResult reporting gateway gateway r [] ⌝ }
+    ensures { λ r. ⌜ Does Engine.Fast reportResult reporting gateway gateway r [] ⌝ }
 {
     let report = gateway.report();
     let keys = report.keys;
@@ -223,7 +274,7 @@ fn setup_result(answer: SetupAnswer) -> NumberResult
     }
 }
 
-fn admit_result(answer: AdmitAnswer) -> AdmitResult
+pub(crate) fn admit_result(answer: AdmitAnswer) -> AdmitResult
     ensures { λ r. ⌜ r ≡ admitResult (ofAdmit answer) ⌝ }
 {
     match answer {
@@ -268,7 +319,7 @@ fn problem(key_problem: bool) -> u8
 }
 
 // What goes out for an answer to a call on a ticket, or why nothing does, and its number.
-fn step_result(answer: StepAnswer) -> NumberResult
+pub(crate) fn step_result(answer: StepAnswer) -> NumberResult
     ensures { λ r. ⌜ r ≡ ticketResult answer ⌝ }
 {
     match answer {
@@ -280,7 +331,7 @@ fn step_result(answer: StepAnswer) -> NumberResult
     }
 }
 
-fn retire_result(answer: RetireAnswer) -> Outcome
+pub(crate) fn retire_result(answer: RetireAnswer) -> Outcome
     ensures { λ r. ⌜ r ≡ outcomeOf (ofRetire answer) ⌝ }
 {
     match answer {

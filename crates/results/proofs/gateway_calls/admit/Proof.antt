@@ -1,15 +1,17 @@
 -- `results::gateway_calls::admit` meets its contract.
 -- Assumes nothing.
 use mathlib.Core.Path.{ap, _∙_}
-use Rattle.results.specs.Calls.{admitResult}
 use borrow.Author.Needs.{needs}
+use Rattle.gateway.specs.Calls.{ofAdmit}
+use Rattle.gateway.specs.declared.AdmitAnswer.{AdmitAnswer}
+use Rattle.results.specs.Calls.{admitResult}
 use Rattle.results.proofs.gateway_calls.admit.Statement.{statement}
 use Rattle.results.proofs.gateway_calls.admit.Tie as tie
 
 returns : tie.Need-returns
 returns c =
     let done = c .before .before .before .before .admit .ensures in
-    (done .0, (done .1 .0, c .admit-result .ensures ∙ ap admitResult (done .1 .1 .0), done .1 .1 .1))
+    (done .0, c .admit-result .ensures ∙ ap (λ (a : AdmitAnswer). admitResult (ofAdmit a)) (done .1 .0), done .1 .1)
 
 pub admit-spec : {M : Type 1} → statement M
 admit-spec = tie.close (tie.spec (λ c κs. search needs) (λ c κs. search needs) (λ c. search needs) returns)

@@ -1,13 +1,24 @@
--- `results::gateway_calls::bare_step` meets its contract.
+-- `results::gateway_calls::bare_step` meets its contract: nothing is written into no buffer.
 -- Assumes nothing.
-use Rattle.results.specs.Calls.{stepResult}
-use Rattle.results.proofs.Changing.{bare-changes}
+use mathlib.Core.Path.{_≡_, refl}
+use mathlib.Core.List.{[]}
+use Prim.Native.Nat.{ℕ, zero, suc}
 use borrow.Author.Needs.{needs}
+use Rattle.wire.specs.Refusals.{written}
+use Rattle.exchange.specs.Steps.{bare, refusal}
+use Rattle.exchange.specs.Moved.{ofTicket}
 use Rattle.results.proofs.gateway_calls.bare_step.Statement.{statement}
 use Rattle.results.proofs.gateway_calls.bare_step.Tie as tie
 
+nothing-written : (n : ℕ) → [] ≡ written n [] []
+nothing-written zero = refl
+nothing-written (suc n) = refl
+
 returns : tie.Need-returns
-returns c = bare-changes stepResult _ _ _ _ (c .before .before .step .ensures) (c .step-result .ensures)
+returns c =
+    let done = c .before .step .ensures in
+    let a = c .before .before .before .before .before .args in
+    (done .0, done .1, nothing-written (refusal (bare (a .kind)) (ofTicket (a .ticket) (a .there))))
 
 pub bare-step-spec : {M : Type 1} → statement M
-bare-step-spec = tie.close (tie.spec (λ c κs. search needs) (λ c κs. search needs) returns)
+bare-step-spec = tie.close (tie.spec (λ c. search needs) (λ c. search needs) (λ c. search needs) (λ c κs. search needs) returns)
