@@ -6,4 +6,5 @@ pub mod Exported
 pub mod Handing
 pub mod Locals
 pub mod Parameters
+pub mod Places
 pub mod Walking

@@ -40,6 +40,7 @@ use Rattle.gateway.specs.declared.change.Change.{Change}
 use Rattle.gateway.specs.Change.{changed, Fits}
 use Rattle.host.proofs.Elements.{elem, store-in-raw}
 use Rattle.host.proofs.Arrays.{values-set, field-set}
+use Rattle.host.proofs.Places.{table-values, offset-fits, exchange-at}
 use Rattle.host.proofs.Walking.{proved}
 use Rattle.gateway.proofs.Gateway as T
 use Rattle.gateway.proofs.Gateway.Laws as T′
@@ -64,12 +65,9 @@ Arg = RefT Gateway × (Change × Unit {0})
 abbrev stayed : Stays (f.ended .signature .params) (f.ended .kept)
 stayed = (stay-ref (0 ∷ []) tt (plain (λ _. T.the-row)), (stay-none (λ _. C.the-row) yes, tt))
 
--- the machine values of the keys' and the table's elements
+-- the machine values of the keys
 abbrev key-values : Gateway → List Val
 key-values g = map (LL.tuple-val S.the-type S′.the-laws) (map (S.the-type .to) (g .keys .list))
-
-abbrev table-values : Gateway → List Val
-table-values g = map (LL.tuple-val E.the-type E′.the-laws) (map (E.the-type .to) (g .table))
 
 module _ (h : Gateway) (c : Change) where
   -- the gateway's machine value after the three stores
@@ -106,17 +104,12 @@ module _ (h : Gateway) (c : Change) where
         ),
       )
 
-  -- there are as many values as the arrays have elements
+  -- there are as many values as the list has places
   all-keys : Is T.the-row h (LL.vals T.the-type T′.the-laws h) → length (key-values h) ≡ 16
   all-keys was =
       let had = LL.owed T.the-type T′.the-laws h (LL.vals T.the-type T′.the-laws h) was in
       let keys = LL.owed K.the-type K′.the-laws (h .keys) (LL.vals K.the-type K′.the-laws (h .keys)) (had .1 .1 .0) in
       length-map (map (S.the-type .to) (h .keys .list)) (LL.tuple-val S.the-type S′.the-laws) ∙ keys .0 .1 .0 .1
-
-  all-places : Is T.the-row h (LL.vals T.the-type T′.the-laws h) → length (table-values h) ≡ 128
-  all-places was =
-      let had = LL.owed T.the-type T′.the-laws h (LL.vals T.the-type T′.the-laws h) was in
-      length-map (map (E.the-type .to) (h .table)) (LL.tuple-val E.the-type E′.the-laws) ∙ had .1 .1 .1 .0 .1 .0 .1
 
 module _ {M : Type 1} (𝓤 : URA M) (H : Heap 𝓤) (A : Atoms 𝓤) (W : Given 𝓤 H A) (at-mem : Memory → SProp 𝓤) (run : Routine → Fun 𝓤) (κ : Lft) (q : Share) (b o : ℕ) (γ : GName) (h : Gateway) (c : Change) (fits : Fits c)
     (new : Is C.the-row c (LL.vals C.the-type C′.the-laws c)) where
@@ -139,9 +132,6 @@ module _ {M : Type 1} (𝓤 : URA M) (H : Heap 𝓤) (A : Atoms 𝓤) (W : Given
   key-fits : c .«key_place» * 76 < 2 ^ 64
   key-fits = omega (arith, fits .0)
 
-  place-fits : c .place * 24 < 2 ^ 64
-  place-fits = omega (arith, fits .1)
-
   module _ (Cs : Calls 𝓤 H) (Λ : Loops 𝓤 H) where
     walk : ent 𝓤 (onEntry 𝓤 H A f.signature (κ, tt) (q, tt) x at) (WpFn 𝓤 H Cs Λ code.function (vptr b o ∷ LL.val C.the-type C′.the-laws c ∷ []) Post)
     walk =
@@ -163,12 +153,12 @@ module _ {M : Type 1} (𝓤 : URA M) (H : Heap 𝓤) (A : Atoms 𝓤) (W : Given
         assigns ! (of-opd ! (load ! (from ! (fld ! refl (stop !))) (look-in ! 15 (sub ! 2 refl (whole !))))) (from ! (hop ! (look ! 9 refl) (stop !)))
         (store-in-raw ! 0 (elem ! (key-values h) (c .«key_place») vunit (subst (λ (n : ℕ). c .«key_place» < n) (sym (all-keys h c was)) (fits .0)) (all-keys h c was) (sub ! 0 refl (sub ! 2 refl (whole !)))) (LL.lawful S.the-type S′.the-laws 𝓤 H A W .typed (c .key) _ (parts .1 .1 .0) .0)) $
         -- the exchange, likewise
-        assigns ! (bin ! (load ! (from ! (fld ! refl (stop !))) (look-in ! 15 (sub ! 3 refl (whole !)))) (lit ! tt) (record { fits = place-fits })) (from ! (stop !)) (store ! 13 refl (tt, record { fits = place-fits })) $
+        assigns ! (bin ! (load ! (from ! (fld ! refl (stop !))) (look-in ! 15 (sub ! 3 refl (whole !)))) (lit ! tt) (record { fits = offset-fits h was (c .place) (fits .1) })) (from ! (stop !)) (store ! 13 refl (tt, record { fits = offset-fits h was (c .place) (fits .1) })) $
         assigns ! (addr ! (from ! (hop ! (look ! 17 refl) (fld ! refl (stop !))))) (from ! (stop !)) (init ! 7 refl (tt, tt)) $
         assigns ! (bin ! (load ! (from ! (stop !)) (look ! 7 refl)) (load ! (from ! (stop !)) (look ! 13 refl)) tt) (from ! (stop !)) (init ! 5 refl (tt, tt)) $
         rewrite ! 5 (λ (p : ℕ). ‵ (fat fullShare tyPtr l₇ 0 (vptr b p))) (sym (place-is 24 (o + 1232) (c .place))) refl $
         assigns ! (of-opd ! (load ! (from ! (fld ! refl (stop !))) (look-in ! 15 (sub ! 4 refl (whole !))))) (from ! (hop ! (look ! 5 refl) (stop !)))
-        (store-in-raw ! 0 (elem ! (table-values h) (c .place) vunit (subst (λ (n : ℕ). c .place < n) (sym (all-places h c was)) (fits .1)) (all-places h c was) (sub ! 3 refl (whole !))) (LL.lawful E.the-type E′.the-laws 𝓤 H A W .typed (c .exchange) _ (parts .1 .1 .1 .1 .0) .0)) $
+        (store-in-raw ! 0 (exchange-at h was (c .place) (fits .1) !) (LL.lawful E.the-type E′.the-laws 𝓤 H A W .typed (c .exchange) _ (parts .1 .1 .1 .1 .0) .0)) $
         assigns ! (of-opd ! (unit-lit !)) (from ! (stop !)) (init ! 19 refl (tt, tt)) $
         -- the borrow is closed at the changed gateway
         rewrite ! 0 (λ (v : Val). ‵ (cellAt fullShare (T.the-row .mir) (v ∷ []) b o)) (mach-is h c) refl $

@@ -1,0 +1,22 @@
+// Searches of the table of a gateway in the host's memory (A10). They are exported so that what a search costs can be measured alone.
+ghost use mathlib.Core.Path.{_≡_};
+ghost use Rattle.gateway.specs.Gateway.{plain, placeBy};
+ghost use Rattle.gateway.specs.Helpers.{hasNumber};
+use gateway::Gateway;
+use gateway::table::TABLE_SIZE;
+
+// The plain engine: the first place that has the number, or the table's length.
+#[no_mangle]
+pub extern "C" fn sealwax_plain_find(gateway: &mut Gateway, ticket: u64) -> usize
+    ensures { λ r. ⌜ (r ≡ placeBy plain ticket (hasNumber ticket) (now (gateway .entry) .table))
+        × (now (gateway .exit) ≡ now (gateway .entry)) ⌝ }
+{
+    let mut at = 0;
+    while at < TABLE_SIZE {
+        if gateway.table[at].ticket.0 == ticket {
+            return at;
+        }
+        at += 1;
+    }
+    at
+}
