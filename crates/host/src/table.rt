@@ -1,6 +1,6 @@
 // Searches of the table of a gateway in the host's memory (A10). They are exported so that what a search costs can be measured alone.
 ghost use mathlib.Core.Path.{_≡_};
-ghost use Rattle.gateway.specs.Gateway.{plain, placeBy};
+ghost use Rattle.gateway.specs.Gateway.{fast, plain, placeBy};
 ghost use Rattle.gateway.specs.Helpers.{hasNumber};
 use gateway::Gateway;
 use gateway::table::TABLE_SIZE;
@@ -19,4 +19,17 @@ pub extern "C" fn sealwax_plain_find(gateway: &mut Gateway, ticket: u64) -> usiz
         at += 1;
     }
     at
+}
+
+// The fast engine: the place that is home to `near`, if it has the number, else as the plain engine.
+#[no_mangle]
+pub extern "C" fn sealwax_find(gateway: &mut Gateway, ticket: u64, near: u64) -> usize
+    ensures { λ r. ⌜ (r ≡ placeBy fast near (hasNumber ticket) (now (gateway .entry) .table))
+        × (now (gateway .exit) ≡ now (gateway .entry)) ⌝ }
+{
+    let home = (near % TABLE_SIZE as u64) as usize;
+    if gateway.table[home].ticket.0 == ticket {
+        return home;
+    }
+    sealwax_plain_find(gateway, ticket)
 }
