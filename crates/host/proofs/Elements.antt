@@ -102,6 +102,10 @@ module _ {M : Type 1} {𝓤 : URA M} {H : Heap 𝓤} {A : Atoms 𝓤} {K : Type 
   pub named-as : K → {i : Item 𝓤} {q : Share} {τ : Ty} {b o : ℕ} {v u : Val} {back : Val → Item 𝓤} → v ≡ u → Part K W i q τ b o v back → Part K W i q τ b o u back
   named-as t {i} {q} {τ} {b} {o} {v} {u} {back} e p = subst (λ (w : Val). Part K W i q τ b o w back) e p
 
+  -- a part whose offset is known under another name
+  pub lies-at : K → {i : Item 𝓤} {q : Share} {τ : Ty} {b o p : ℕ} {v : Val} {back : Val → Item 𝓤} → o ≡ p → Part K W i q τ b o v back → Part K W i q τ b p v back
+  lies-at t {i} {q} {τ} {b} {o} {p} {v} {back} e part = subst (λ (r : ℕ). Part K W i q τ b r v back) e part
+
   module _ {Γ : List (Item 𝓤)} where
     -- `types.Part`'s `look-in` for a cell that stands at the raw form of the place's type
     pub look-in-raw : K → (n : ℕ) {q : Share} {τ : Ty} {b o : ℕ} {v : Val} {back : Val → Item 𝓤} → Part K W (nth 𝓤 H A n Γ) q (rawTy τ) b o v back → Reads K W Γ τ b o v

@@ -54,12 +54,11 @@ use denote.Plain.{nothing-lawful}
 use denote.Builtin.{unit, RefMutOf}
 use denote.Ref.{MutRef, ptr-vals, mut-tells}
 use denote.Signature.{Slot, plain}
-use denote.Steps.{only, opens, closes, owned, peeks, nothing}
+use denote.Steps.{only, closes, owned, peeks, nothing}
 use denote.Struct.Field.{Field}
 use denote.Struct.Values.{intos}
 use denote.Struct.Declared.{Declared, fields, shape, row, field as as-field}
 use denote.Struct.Struct.{Plains, layout}
-use denote.Struct.Steps.{spelt}
 use denote.Struct.Laws as structs
 use denote.Triple.Statement.{Contract, Triple}
 use denote.Triple.Call.{calls-at}
@@ -85,6 +84,7 @@ use Rattle.host.proofs.Parameters.{Parameter, lifetimes, types-of, slot
 use Rattle.host.proofs.Parameters.{Takes, passed, written}
 use Rattle.host.proofs.Handing.{on, back, same-values, same-owns, same-passed, same-written, same-lasts}
 use Rattle.host.proofs.Handing.{lent-types, lent-values, lent-typed, lending, operands, lends, handed}
+use Rattle.host.proofs.Places.{gateway-values, opens-gateway}
 use Rattle.host.proofs.Walking.{given-up, given-up-fit, given-up-go, returned, framed, proved}
 use Rattle.host.proofs.change.apply as apply
 use Rattle.host.proofs.change.apply.Symbol as apply-symbol
@@ -256,9 +256,6 @@ module _ (Result : Declared) (result-laws : structs.Laws Result) (result-plain :
       abbrev before : Gateway
       before = a .0 .now
 
-      abbrev gateway-values : Gateway → List Val
-      gateway-values = structs.vals gateway.the-type gateway.Laws.the-laws
-
       abbrev vs : List Val
       vs = values (suc n) κs 1 ps (a .1)
 
@@ -341,11 +338,7 @@ module _ (Result : Declared) (result-laws : structs.Laws Result) (result-plain :
             one-behind 𝓤 H passed-types bs E-more (suc (suc (past again-types 1))) (one-behind 𝓤 H again-types ls E-last 1 refl) in
             pass1 ! (init ! 10 refl (tt, tt)) $ move ! (9 ∷ []) $ pass-all ! passed-types bs vs typed-vs E-more $
             -- the gateway is copied, and the borrow is closed at it
-            move ! (14 ∷ 15 ∷ 16 ∷ []) $ opens ! tt gateway.the-row {h = before} b o (λ us.
-            spelt ! gateway.the-row (Is gateway.the-row) (shows 𝓤 H A gateway.the-row) gateway-values
-            (structs.tells gateway.the-type gateway.Laws.the-laws) fullShare before us b o $
-            move ! (1 ∷ []) $ peeks ! gateway.the-row (Is gateway.the-row) (shows 𝓤 H A gateway.the-row) before (gateway-values before) (λ was.
-            move ! (1 ∷ 0 ∷ []) $
+            move ! (14 ∷ 15 ∷ 16 ∷ []) $ opens-gateway ! tt before b o (λ was.
             assigns ! (of-opd ! (load ! (from ! (hop ! (look ! 15 refl) (stop !))) (look-raw ! 0 refl))) (from-at ! is-copy (stop !))
             (init ! 11 refl (structs.lawful gateway.the-type gateway.Laws.the-laws 𝓤 H A W .typed before _ was .0)) $
             closes ! tt gateway.the-row before (gateway-values before) b o $
@@ -393,7 +386,7 @@ module _ (Result : Declared) (result-laws : structs.Laws Result) (result-plain :
             move ! (11 ∷ 12 ∷ []) $ free1 ! $ move ! (9 ∷ 10 ∷ []) $ free1 ! $
             move ! (4 ∷ []) $ free-all ! again-types ls again-vs typed-again E-last $
             move ! (6 ∷ 7 ∷ []) $ free1 ! $ move ! (4 ∷ 5 ∷ []) $ free1 ! $ free0 ! $
-            keep ! (0 ∷ 1 ∷ 2 ∷ 3 ∷ []) $ by ! (exits d (after .0) (ws .1) (parts-are .1 .0) said is-after)))))))))))))))))
+            keep ! (0 ∷ 1 ∷ 2 ∷ 3 ∷ []) $ by ! (exits d (after .0) (ws .1) (parts-are .1 .0) said is-after))))))))))))))))
 
     walks : (step : Name) (Cs : Calls 𝓤 H) (Λ : Loops 𝓤 H) → FmC 𝓤 H (W .laws) Cs → Triple 𝓤 (Cs step) Step
         → Triple 𝓤 (Cs apply-symbol.name) (Apply 𝓤 H A at-mem run) → Walks 𝓤 H A ended stayed (WpFn 𝓤 H Cs Λ (function step)) (clauses 𝓤)

@@ -18,19 +18,18 @@ use prog.Wp.{Heap, Calls, Loops, WpFn}
 use ghost.Atoms.{Atoms}
 use contract.Monad.{Fun}
 use contract.Running.{givenOf, tables}
-use types.Kit.{Given, ‵, _⊛_, _$_, _∵_, !, qed, by, move, keep, drop, split, join, rewrite, fsplit, fsplit3, fjoin, fjoin3, feqI, suffices, frame, done}
-use types.Run.{look, init, store, forget, stop, hop, fld, from, load, lit, addr, bin, unit-lit, of-opd, assigns, returns, enter, alloc1, alloc0, params1, pass1, pass0, free1, free0}
+use types.Kit.{Given, ‵, _⊛_, _$_, _∵_, !, qed, by, move, drop, split, join, rewrite, fsplit, fsplit3, fjoin, fjoin3, feqI, suffices, frame, done}
+use types.Run.{look, init, store, stop, hop, fld, from, load, lit, addr, bin, unit-lit, of-opd, assigns, returns, enter, alloc1, alloc0, params1, pass1, pass0}
 use types.Part.{whole, sub, look-in}
 use types.SemTy.{Body}
 use denote.RattleType.{owns}
-use denote.Laws.{Is, shows}
+use denote.Laws.{Is}
 use denote.Memory.{mem, cellAt}
 use denote.Index.{place, place-is}
 use denote.Array.{arrayVal}
 use denote.Ref.{RefT, MutRef, ptr-vals, mut-tells}
 use denote.Signature.{plain}
-use denote.Steps.{opens, closes, owned, peeks, nothing}
-use denote.Struct.Steps.{spelt}
+use denote.Steps.{closes, owned, nothing}
 use denote.Struct.Laws as LL
 use denote.Triple.Entry.{onEntry}
 use denote.Triple.Walked.{says, needs, Stays, stay-ref, stay-none, walkOf, AllGo, goes-none, goes-ref, Walks, ends-at, walked}
@@ -40,7 +39,8 @@ use Rattle.gateway.specs.declared.change.Change.{Change}
 use Rattle.gateway.specs.Change.{changed, Fits}
 use Rattle.host.proofs.Elements.{elem, store-in-raw}
 use Rattle.host.proofs.Arrays.{values-set, field-set}
-use Rattle.host.proofs.Places.{table-values, offset-fits, exchange-at}
+use Rattle.host.proofs.Locals.{has, frees-locals}
+use Rattle.host.proofs.Places.{table-values, offset-fits, exchange-at, opens-gateway}
 use Rattle.host.proofs.Walking.{proved}
 use Rattle.gateway.proofs.Gateway as T
 use Rattle.gateway.proofs.Gateway.Laws as T′
@@ -141,8 +141,7 @@ module _ {M : Type 1} (𝓤 : URA M) (H : Heap 𝓤) (A : Atoms 𝓤) (W : Given
         enter ! Cs Λ code.function (vptr b o ∷ LL.val C.the-type C′.the-laws c ∷ []) _ $
         alloc1 ! (λ l₀. alloc1 ! (λ l₁. alloc1 ! (λ l₂. alloc1 ! (λ l₃. alloc1 ! (λ l₄. alloc1 ! (λ l₅. alloc1 ! (λ l₆. alloc1 ! (λ l₇. alloc0 ! $ params1 ! $
         pass1 ! (init ! 12 refl (tt, tt)) $ pass1 ! (init ! 10 refl (LL.lawful C.the-type C′.the-laws 𝓤 H A W .typed c _ new .0)) $ pass0 ! $
-        move ! (16 ∷ 17 ∷ 18 ∷ []) $ opens ! tt T.the-row {h = h} b o (λ vs. spelt ! T.the-row (Is T.the-row) (shows 𝓤 H A T.the-row) (LL.vals T.the-type T′.the-laws) (LL.tells T.the-type T′.the-laws) fullShare h vs b o $
-        move ! (1 ∷ []) $ peeks ! T.the-row (Is T.the-row) (shows 𝓤 H A T.the-row) h (LL.vals T.the-type T′.the-laws h) (λ was. move ! (1 ∷ 0 ∷ []) $
+        move ! (16 ∷ 17 ∷ 18 ∷ []) $ opens-gateway ! tt h b o (λ was.
         -- [the gateway's cell; what a gateway owns; the open borrow; obs; auth; the locals, from the last; …]
         assigns ! (of-opd ! (load ! (from ! (fld ! refl (stop !))) (look-in ! 15 (sub ! 0 refl (whole !))))) (from ! (hop ! (look ! 17 refl) (fld ! refl (stop !)))) (store-in-raw ! 0 (sub ! 0 refl (whole !)) (LL.lawful N.the-type N′.the-laws 𝓤 H A W .typed (c .«last_ticket») _ (parts .0) .0)) $
         -- the key: its offset, the address of the list, the address of the element, the store
@@ -156,16 +155,13 @@ module _ {M : Type 1} (𝓤 : URA M) (H : Heap 𝓤) (A : Atoms 𝓤) (W : Given
         assigns ! (bin ! (load ! (from ! (fld ! refl (stop !))) (look-in ! 15 (sub ! 3 refl (whole !)))) (lit ! tt) (record { fits = offset-fits h was (c .place) (fits .1) })) (from ! (stop !)) (store ! 13 refl (tt, record { fits = offset-fits h was (c .place) (fits .1) })) $
         assigns ! (addr ! (from ! (hop ! (look ! 17 refl) (fld ! refl (stop !))))) (from ! (stop !)) (init ! 7 refl (tt, tt)) $
         assigns ! (bin ! (load ! (from ! (stop !)) (look ! 7 refl)) (load ! (from ! (stop !)) (look ! 13 refl)) tt) (from ! (stop !)) (init ! 5 refl (tt, tt)) $
-        rewrite ! 5 (λ (p : ℕ). ‵ (fat fullShare tyPtr l₇ 0 (vptr b p))) (sym (place-is 24 (o + 1232) (c .place))) refl $
         assigns ! (of-opd ! (load ! (from ! (fld ! refl (stop !))) (look-in ! 15 (sub ! 4 refl (whole !))))) (from ! (hop ! (look ! 5 refl) (stop !)))
         (store-in-raw ! 0 (exchange-at h was (c .place) (fits .1) !) (LL.lawful E.the-type E′.the-laws 𝓤 H A W .typed (c .exchange) _ (parts .1 .1 .1 .1 .0) .0)) $
         assigns ! (of-opd ! (unit-lit !)) (from ! (stop !)) (init ! 19 refl (tt, tt)) $
         -- the borrow is closed at the changed gateway
         rewrite ! 0 (λ (v : Val). ‵ (cellAt fullShare (T.the-row .mir) (v ∷ []) b o)) (mach-is h c) refl $
         move ! (1 ∷ []) $ drop ! $ owned ! T.the-row (Is T.the-row) ((LL.makes T.the-type T′.the-plain) 𝓤 H A) (changed c h) _ (made h c new was) $ move ! (1 ∷ 0 ∷ []) $ closes ! tt T.the-row (changed c h) (LL.vals T.the-type T′.the-laws (changed c h)) b o $
-        returns ! (look ! 17 refl) $ forget ! 3 refl $ forget ! 5 refl $ forget ! 7 refl $ forget ! 9 refl $ forget ! 11 refl $ forget ! 13 refl $ forget ! 15 refl $ forget ! 17 refl $
-        move ! (17 ∷ 18 ∷ []) $ free1 ! $ move ! (15 ∷ 16 ∷ []) $ free1 ! $ move ! (13 ∷ 14 ∷ []) $ free1 ! $ move ! (11 ∷ 12 ∷ []) $ free1 ! $ move ! (9 ∷ 10 ∷ []) $ free1 ! $ move ! (7 ∷ 8 ∷ []) $ free1 ! $ move ! (5 ∷ 6 ∷ []) $ free1 ! $ move ! (3 ∷ 4 ∷ []) $ free1 ! $ free0 ! $
-        keep ! (0 ∷ 1 ∷ 2 ∷ []) $ by ! exits))))))))))
+        returns ! (look ! 17 refl) $ frees-locals ! (has _ ∷ has _ ∷ has _ ∷ has _ ∷ has _ ∷ has _ ∷ has _ ∷ has _ ∷ []) _ $ by ! exits)))))))))
 
 module _ {M : Type 1} (𝓤 : URA M) (H : Heap 𝓤) (A : Atoms 𝓤) (W : Given 𝓤 H A) (at-mem : Memory → SProp 𝓤) (run : Routine → Fun 𝓤) where
   walks : (Cs : Calls 𝓤 H) (Λ : Loops 𝓤 H) → Walks 𝓤 H A f.ended stayed (WpFn 𝓤 H Cs Λ code.function) (f.clauses 𝓤 H A at-mem run)

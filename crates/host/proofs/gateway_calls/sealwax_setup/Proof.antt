@@ -30,8 +30,7 @@ use denote.Laws.{Is, Ises, Are, Typed, shows}
 use denote.Memory.{mem}
 use denote.Ref.{MutRef, ptr-vals, mut-tells}
 use denote.Signature.{plain}
-use denote.Steps.{only, opens, closes, owned, peeks, nothing}
-use denote.Struct.Steps.{spelt}
+use denote.Steps.{only, closes, owned, peeks, nothing}
 use denote.Struct.Laws as structs
 use denote.Triple.Statement.{Contract, Triple}
 use denote.Triple.Call.{calls-at}
@@ -46,6 +45,7 @@ use Rattle.gateway.proofs.Gateway as gateway
 use Rattle.results.specs.Calls.{setupResult}
 use Rattle.results.specs.declared.gateway_calls.SetupDone.{SetupDone}
 use Rattle.host.proofs.Parameters.{Parameter, bytes, u64, types-of, slots, kept, rows, spelled, told, valued, values, typed}
+use Rattle.host.proofs.Places.{opens-gateway}
 use Rattle.host.proofs.Walking.{given-up, given-up-go, returned, framed, proved}
 use Rattle.results.proofs.gateway_calls.SetupDone as fresh
 use Rattle.results.proofs.outcome.NumberResult as result
@@ -133,9 +133,7 @@ module _ {M : Type 1} (𝓤 : URA M) (H : Heap 𝓤) (A : Atoms 𝓤) (W : Given
           (ap only (structs.tells fresh.the-type fresh.Laws.the-laws r _ is)) refl $
           drop ! $ move ! (1 ∷ []) $ drop ! $
           -- [the list's token; the locals, from the last; obs; the borrow; the token]
-          move ! (11 ∷ 12 ∷ 13 ∷ []) $ opens ! tt gateway.the-row {h = a .0 .now} b o (λ us.
-          spelt ! gateway.the-row (Is gateway.the-row) (shows 𝓤 H A gateway.the-row) gateway-values
-          (structs.tells gateway.the-type gateway.Laws.the-laws) fullShare (a .0 .now) us b o $
+          move ! (11 ∷ 12 ∷ 13 ∷ []) $ opens-gateway ! tt (a .0 .now) b o (λ lies.
           -- [the gateway's cell; what a gateway owns; the open borrow; obs; auth; the list's token; the locals, from the last]
           assigns ! (of-opd ! (load ! (from ! (fld ! refl (stop !))) (look-in ! 6 (sub ! 0 refl (whole !)))))
           (from ! (hop ! (look ! 12 refl) (stop !)))
