@@ -3,6 +3,7 @@ pub mod Applied
 pub mod Arrays
 pub mod Elements
 pub mod Exported
+pub mod Found
 pub mod Handing
 pub mod Locals
 pub mod Parameters
