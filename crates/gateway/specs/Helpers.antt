@@ -15,7 +15,7 @@ use Rattle.keys.specs.Keys.{keyOf}
 use Rattle.keys.specs.Stored.{oneMore, usedState}
 use Rattle.keys.specs.Helpers.{given, keyRefusal}
 use Rattle.gateway.specs.declared.change.Change.{Change}
-use Rattle.gateway.specs.Registry.{tableSize}
+use Rattle.gateway.specs.Registry.{tableSize, report}
 
 infixr 3 _orElse_
 -- the first number, or where it is 0 the second
@@ -61,3 +61,7 @@ hasNumber number e = eqb (e .ticket .0) number
 -- a place that a search found, the first one where it found none
 abbrev pub inside : ℕ → ℕ
 inside place = pick (ltb place tableSize) place 0
+
+-- the report of a last ticket, a number pending and stored keys: it tells nothing of the cap
+abbrev pub reportFrom : Ticket → ℕ → Keys → Report
+reportFrom last pending keys = report (record { cap = 0; lastTicket = last .0; keys = keysOf keys }) pending

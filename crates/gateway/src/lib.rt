@@ -9,6 +9,7 @@ ghost use Rattle.gateway.specs.declared.table.Engine.{Engine};
 ghost use Rattle.gateway.specs.Registry.{setup, setupAnswer};
 ghost use Rattle.gateway.specs.Gateway.{emptyGateway, freshGateway, gatewayDoes};
 ghost use Rattle.gateway.specs.Change.{changed, Fits};
+ghost use Rattle.gateway.specs.Helpers.{reportFrom};
 ghost use Rattle.gateway.specs.Calls.{admit, retire, onTicket, reporting, ofAdmit, ofRetire, ofStep, ofReport};
 use crate::admission::Admission;
 use crate::admission::AdmitRefusal;
@@ -190,16 +191,24 @@ impl Gateway {
         ensures gateway { λ r. ⌜ ((engine : Engine) → self ≡ gatewayDoes engine self reporting .state) ⌝ }
         ensures answer { λ r. ⌜ ((engine : Engine) → ofReport r ≡ gatewayDoes engine self reporting .answer) ⌝ }
     {
+        let last_ticket = self.last_ticket;
         let keys = self.keys;
         let table = self.table;
-        let last_ticket = self.last_ticket;
-        let reports = keys.report();
-        Report {
-            last_ticket,
-            pending: count_pending(table),
-            key_count: keys.number(),
-            keys: reports,
-        }
+        let pending = count_pending(table);
+        report_of(last_ticket, pending, keys)
+    }
+}
+
+// The report of a last ticket, a number pending and keys: a host that counts in its own memory needs no copy of the table.
+pub fn report_of(last_ticket: Ticket, pending: usize, keys: Keys) -> Report
+    ensures { λ r. ⌜ r ≡ reportFrom «last_ticket» pending keys ⌝ }
+{
+    let reports = keys.report();
+    Report {
+        last_ticket,
+        pending,
+        key_count: keys.number(),
+        keys: reports,
     }
 }
 

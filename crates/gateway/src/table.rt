@@ -97,7 +97,7 @@ pub(crate) fn count_pending(table: [Exchange; TABLE_SIZE]) -> usize
 }
 
 // 1 for a pending exchange, 0 for a free place.
-fn number(exchange: Exchange) -> usize
+pub fn number(exchange: Exchange) -> usize
     ensures { λ r. ⌜ r ≡ length (pendingIn (exchange ∷ [])) ⌝ }
     ensures one { λ r. ⌜ r ≤ 1 ⌝ }
 {

@@ -9,6 +9,7 @@ ghost use Rattle.gateway.specs.Gateway.{freshGateway};
 ghost use Rattle.gateway.specs.Calls.{admit, retire, onTicket, reporting};
 ghost use Rattle.results.specs.Calls.{Does, outcomeOf, setupResult, admitResult, stepResult, reportResult};
 use crate::change::apply;
+use crate::pending::count_pending;
 use gateway::Gateway;
 use results::gateway_calls;
 use results::gateway_calls::AdmitResult;
@@ -101,5 +102,6 @@ pub extern "C" fn sealwax_retire(gateway: &mut Gateway, key_id: u8) -> Outcome
 pub extern "C" fn sealwax_report(gateway: &Gateway) -> ReportResult
     ensures { λ r. ⌜ Does reportResult reporting (now (gateway .entry)) (now (gateway .exit)) r [] ⌝ }
 {
-    gateway_calls::report(*gateway)
+    let pending = count_pending(gateway);
+    gateway_calls::report_of(gateway.last_ticket, pending, gateway.keys)
 }

@@ -5,5 +5,6 @@ pub mod change;
 pub mod client_calls;
 pub mod gateway_calls;
 pub mod list_calls;
+pub mod pending;
 pub mod sizes;
 pub mod table;

@@ -25,6 +25,7 @@ use exchange::StepAnswer;
 use exchange::Ticket;
 use gateway::AdmitAnswer;
 use gateway::Gateway;
+use gateway::Report;
 use gateway::RetireAnswer;
 use gateway::SetupAnswer;
 use gateway::admission;
@@ -255,6 +256,20 @@ pub fn report(gateway: Gateway) -> ReportResult
     ensures { λ r. ⌜ Does Engine.Fast reportResult reporting gateway gateway r [] ⌝ }
 {
     let report = gateway.report();
+    report_result(report)
+}
+
+// The same of a last ticket, a number pending and keys.
+pub fn report_of(last_ticket: Ticket, pending: usize, keys: Keys) -> ReportResult
+    ensures { λ r. ⌜ r ≡ reportResult (ofReport (reportFrom «last_ticket» pending keys)) ⌝ }
+{
+    let report = gateway::report_of(last_ticket, pending, keys);
+    report_result(report)
+}
+
+fn report_result(report: Report) -> ReportResult
+    ensures { λ r. ⌜ r ≡ reportResult (ofReport report) ⌝ }
+{
     let keys = report.keys;
     ReportResult {
         outcome: Outcome::sends(0),

@@ -11,4 +11,4 @@ unfolding gatewayDoes
 returns c = (λ engine. refl, λ engine. rw (c .before .before .report .ensures, c .before .count-pending .ensures, c .number .ensures))
 
 pub report-spec : {M : Type 1} → statement M
-report-spec = tie.close (tie.spec (λ c κs. search needs) (λ c κs. search needs) (λ c κs. search needs) returns)
+report-spec = tie.close (tie.spec (λ c κs. search needs) (λ c κs. search needs) returns)

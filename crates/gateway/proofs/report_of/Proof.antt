@@ -1,0 +1,11 @@
+-- `gateway::report_of` meets its contract.
+-- Assumes nothing.
+use borrow.Author.Needs.{needs}
+use Rattle.gateway.proofs.report_of.Statement.{statement}
+use Rattle.gateway.proofs.report_of.Tie as tie
+
+returns : tie.Need-returns
+returns c = rw (c .before .report .ensures, c .number .ensures)
+
+pub report-of-spec : {M : Type 1} → statement M
+report-of-spec = tie.close (tie.spec (λ c κs. search needs) (λ c κs. search needs) returns)
