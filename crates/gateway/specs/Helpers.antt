@@ -11,9 +11,12 @@ use Rattle.request.specs.Request.{fieldsOf}
 use Rattle.request.specs.Helpers.{requestRefusal}
 use Rattle.exchange.specs.declared.Exchange.{Exchange}
 use Rattle.exchange.specs.Exchange.{isFree, asked}
-use Rattle.keys.specs.Keys.{keyOf}
+use Rattle.keys.specs.Keys.{keyOf, keysOf}
 use Rattle.keys.specs.Stored.{oneMore, usedState}
 use Rattle.keys.specs.Helpers.{given, keyRefusal}
+use Rattle.exchange.specs.declared.Ticket.{Ticket}
+use Rattle.keys.specs.declared.Keys.{Keys}
+use Rattle.gateway.specs.declared.Report.{Report}
 use Rattle.gateway.specs.declared.change.Change.{Change}
 use Rattle.gateway.specs.Registry.{tableSize, report}
 

@@ -32,7 +32,8 @@ use denote.Triple.Call.{calls-at}
 use denote.Triple.Statement.{Contract, Triple}
 use denote.Triple.Spec.{tripleOf}
 use Rattle.gateway.specs.declared.Gateway.{Gateway}
-use Rattle.gateway.specs.Gateway.{placeBy, fast}
+use Rattle.gateway.specs.declared.table.Engine.{Engine}
+use Rattle.gateway.specs.Gateway.{placeBy}
 use Rattle.gateway.specs.Helpers.{hasNumber}
 use Rattle.gateway.proofs.Gateway as gateway
 use Rattle.host.proofs.Walking.{returned}
@@ -69,7 +70,7 @@ module _ {M : Type 1} {𝓤 : URA M} {H : Heap 𝓤} {A : Atoms 𝓤} {K : Type 
   pub calls-find : K → FmC 𝓤 H (W .laws) C → (at-mem : Memory → SProp 𝓤) (run : Routine → Fun 𝓤) → Triple 𝓤 (C find.Symbol.name) (Find 𝓤 H A at-mem run)
       → {κ : Lft} {p : Share} {γ : GName} (g : Gateway) (b o ticket near : ℕ) → ticket < 2 ^ 64 → near < 2 ^ 64 → {xs : List Operand} {d : Place} {rest : Code}
       → ((i j : Item 𝓤) → Opds K W (i ∷ j ∷ Γ) E xs (vptr b o ∷ vint w64 ticket ∷ vint w64 near ∷ []))
-      → ((r : ℕ) → r < 2 ^ 64 → r ≡ placeBy fast near (hasNumber ticket) (g .table)
+      → ((r : ℕ) → r < 2 ^ 64 → r ≡ placeBy Engine.Fast near (hasNumber ticket) (g .table)
       → Seq K W (‵ (fobs γ (gateway.the-row .coded .code g)) ∷ ‵ (fbor κ (Body (mem gateway.the-row) b o γ)) ∷ ‵ (flft κ p) ∷ Γ) (lands C Λ E d (vint w64 r) rest q))
       → Seq K W (‵ (fobs γ (gateway.the-row .coded .code g)) ∷ ‵ (fbor κ (Body (mem gateway.the-row) b o γ)) ∷ ‵ (flft κ p) ∷ Γ)
       (runs C Λ E (seq (call find.Symbol.name xs d) rest) q)
@@ -85,7 +86,7 @@ module _ {M : Type 1} {𝓤 : URA M} {H : Heap 𝓤} {A : Atoms 𝓤} {K : Type 
       use2 W (raw (Find 𝓤 H A at-mem run .pre asked)) (goes-find 𝓤 H A at-mem run (α ∷ []) fullShare δ b o g ticket near W) $
       calls-at t fm (Find 𝓤 H A at-mem run) met asked (operands _ _) (λ v.
       returned t find.ended (find.clauses 𝓤 H A at-mem run) asked v
-      (λ r ws. (r ≡ placeBy fast near (hasNumber ticket) (g .table)) × (ws .0 ≡ g)) tt (λ r ws. id⊢ 𝓤 _) (λ r ws said.
+      (λ r ws. (r ≡ placeBy Engine.Fast near (hasNumber ticket) (g .table)) × (ws .0 ≡ g)) tt (λ r ws. id⊢ 𝓤 _) (λ r ws said.
       peeks t usize (Is usize) (shows 𝓤 H A usize) r (v ∷ []) (λ is. drop t $
       -- the lifetime is over, and the reference comes back
       use1 W (‵ (flft (α ∷ []) fullShare) ⊛ ‵ ftrue) (id⊢ 𝓤 _) $ split t $ lft-end t tt $ move t (2 ∷ []) $ fsplit t $ move t (2 ∷ 4 ∷ 0 ∷ []) $

@@ -1,16 +1,19 @@
-// Setup and the six calls. The gateway lies in the host's memory: a call reads it, and writes what changes.
+// Setup and the six calls, by the fast engine. The gateway lies in the host's memory: a call reads of it what it needs, and writes what changes.
 ghost use mathlib.Core.Path.{_≡_};
 ghost use mathlib.Core.Bool.{not};
 ghost use mathlib.Core.List.{[]};
 ghost use lib.Dec.{eqb};
 ghost use Rattle.exchange.specs.Steps.{openResult, respond, abandon};
+ghost use Rattle.gateway.specs.declared.table.Engine.{Engine};
 ghost use Rattle.gateway.specs.Registry.{setup, setupAnswer};
 ghost use Rattle.gateway.specs.Gateway.{freshGateway};
 ghost use Rattle.gateway.specs.Calls.{admit, retire, onTicket, reporting};
 ghost use Rattle.results.specs.Calls.{Does, outcomeOf, setupResult, admitResult, stepResult, reportResult};
 use crate::change::apply;
 use crate::pending::count_pending;
+use crate::table::sealwax_find;
 use gateway::Gateway;
+use gateway::table::inside;
 use results::gateway_calls;
 use results::gateway_calls::AdmitResult;
 use results::gateway_calls::ReportResult;
@@ -35,10 +38,24 @@ pub extern "C" fn sealwax_admit(
     request: &[u8],
     info: &mut [u8],
 ) -> AdmitResult
-    ensures { λ r. ⌜ Does admitResult (admit (now (request .entry)) (now (info .entry)))
+    ensures { λ r. ⌜ Does Engine.Fast admitResult (admit (now (request .entry)) (now (info .entry)))
         (now (gateway .entry)) (now (gateway .exit)) r (now (info .exit)) ⌝ }
 {
-    let done = gateway_calls::admit(*gateway, request, info);
+    let key = gateway_calls::named_key(gateway.keys, request);
+    let key_place = key.place;
+    let next = gateway_calls::next_ticket(gateway.last_ticket);
+    let place = inside(sealwax_find(gateway, 0, next));
+    let done = gateway_calls::admit(
+        gateway.last_ticket,
+        gateway.cap,
+        key.there,
+        key_place,
+        gateway.keys.list[key_place],
+        place,
+        gateway.table[place],
+        request,
+        info,
+    );
     apply(gateway, done.change);
     done.result
 }
@@ -51,11 +68,12 @@ pub extern "C" fn sealwax_open(
     success: u8,
     n: u64,
 ) -> NumberResult
-    ensures { λ r. ⌜ Does stepResult (onTicket ticket (openResult (not (eqb success 0)) n))
+    ensures { λ r. ⌜ Does Engine.Fast stepResult (onTicket ticket (openResult (not (eqb success 0)) n))
         (now (gateway .entry)) (now (gateway .exit)) r [] ⌝ }
 {
-    let done = gateway_calls::open(*gateway, ticket, success, n);
-    apply(gateway, done.change);
+    let place = inside(sealwax_find(gateway, ticket, ticket));
+    let done = gateway_calls::open(gateway.table[place], ticket, success, n);
+    gateway.table[place] = done.exchange;
     done.result
 }
 
@@ -69,39 +87,43 @@ pub extern "C" fn sealwax_respond(
     plain: u64,
     salt: &mut [u8],
 ) -> NumberResult
-    ensures { λ r. ⌜ Does stepResult (onTicket ticket (respond (now (enc .entry)) (now (nonce .entry)) plain (now (salt .entry))))
+    ensures { λ r. ⌜ Does Engine.Fast stepResult (onTicket ticket (respond (now (enc .entry)) (now (nonce .entry)) plain (now (salt .entry))))
         (now (gateway .entry)) (now (gateway .exit)) r (now (salt .exit)) ⌝ }
 {
-    let done = gateway_calls::respond(*gateway, ticket, enc, nonce, plain, salt);
-    apply(gateway, done.change);
+    let place = inside(sealwax_find(gateway, ticket, ticket));
+    let done = gateway_calls::respond(gateway.table[place], ticket, enc, nonce, plain, salt);
+    gateway.table[place] = done.exchange;
     done.result
 }
 
 // Abandon: closed, and no reply is sent.
 #[no_mangle]
 pub extern "C" fn sealwax_abandon(gateway: &mut Gateway, ticket: u64) -> Outcome
-    ensures { λ r. ⌜ Does outcomeOf (onTicket ticket abandon) (now (gateway .entry)) (now (gateway .exit)) r [] ⌝ }
+    ensures { λ r. ⌜ Does Engine.Fast outcomeOf (onTicket ticket abandon) (now (gateway .entry)) (now (gateway .exit)) r [] ⌝ }
 {
-    let done = gateway_calls::abandon(*gateway, ticket);
-    apply(gateway, done.change);
+    let place = inside(sealwax_find(gateway, ticket, ticket));
+    let done = gateway_calls::abandon(gateway.table[place], ticket);
+    gateway.table[place] = done.exchange;
     done.result
 }
 
 // Retire: later admissions refuse the key; pending exchanges go on.
 #[no_mangle]
 pub extern "C" fn sealwax_retire(gateway: &mut Gateway, key_id: u8) -> Outcome
-    ensures { λ r. ⌜ Does outcomeOf (retire «key_id») (now (gateway .entry)) (now (gateway .exit)) r [] ⌝ }
+    ensures { λ r. ⌜ Does Engine.Fast outcomeOf (retire «key_id») (now (gateway .entry)) (now (gateway .exit)) r [] ⌝ }
 {
-    let done = gateway_calls::retire(*gateway, key_id);
-    apply(gateway, done.change);
+    let key = gateway_calls::key_with(gateway.keys, key_id);
+    let place = key.place;
+    let done = gateway_calls::retire(gateway.keys.list[place], key.there);
+    gateway.keys.list[place] = done.key;
     done.result
 }
 
 // Report: last ticket, number pending, and each key's count and retirement. The gateway is as it was.
 #[no_mangle]
 pub extern "C" fn sealwax_report(gateway: &Gateway) -> ReportResult
-    ensures { λ r. ⌜ Does reportResult reporting (now (gateway .entry)) (now (gateway .exit)) r [] ⌝ }
+    ensures { λ r. ⌜ Does Engine.Fast reportResult reporting (now (gateway .entry)) (now (gateway .exit)) r [] ⌝ }
 {
     let pending = count_pending(gateway);
-    gateway_calls::report_of(gateway.last_ticket, pending, gateway.keys)
+    gateway_calls::report(gateway.last_ticket, pending, gateway.keys)
 }

@@ -1,6 +1,7 @@
 // Searches of the table of a gateway in the host's memory (A10). They are exported so that what a search costs can be measured alone.
 ghost use mathlib.Core.Path.{_≡_};
-ghost use Rattle.gateway.specs.Gateway.{fast, plain, placeBy};
+ghost use Rattle.gateway.specs.declared.table.Engine.{Engine};
+ghost use Rattle.gateway.specs.Gateway.{placeBy};
 ghost use Rattle.gateway.specs.Helpers.{hasNumber};
 use gateway::Gateway;
 use gateway::table::TABLE_SIZE;
@@ -8,7 +9,7 @@ use gateway::table::TABLE_SIZE;
 // The plain engine: the first place that has the number, or the table's length.
 #[no_mangle]
 pub extern "C" fn sealwax_plain_find(gateway: &mut Gateway, ticket: u64) -> usize
-    ensures { λ r. ⌜ (r ≡ placeBy plain ticket (hasNumber ticket) (now (gateway .entry) .table))
+    ensures { λ r. ⌜ (r ≡ placeBy Engine.Plain ticket (hasNumber ticket) (now (gateway .entry) .table))
         × (now (gateway .exit) ≡ now (gateway .entry)) ⌝ }
 {
     let mut at = 0;
@@ -24,7 +25,7 @@ pub extern "C" fn sealwax_plain_find(gateway: &mut Gateway, ticket: u64) -> usiz
 // The fast engine: the place that is home to `near`, if it has the number, else as the plain engine.
 #[no_mangle]
 pub extern "C" fn sealwax_find(gateway: &mut Gateway, ticket: u64, near: u64) -> usize
-    ensures { λ r. ⌜ (r ≡ placeBy fast near (hasNumber ticket) (now (gateway .entry) .table))
+    ensures { λ r. ⌜ (r ≡ placeBy Engine.Fast near (hasNumber ticket) (now (gateway .entry) .table))
         × (now (gateway .exit) ≡ now (gateway .entry)) ⌝ }
 {
     let home = (near % TABLE_SIZE as u64) as usize;

@@ -1,13 +1,15 @@
-// The calls that search the table, on a gateway by value and by either engine, and retire: what the program `sealwax` calls. What decides is what hosts call.
+// The calls on a gateway by value, those that search the table by either engine: what the program `sealwax` calls. What decides is what hosts call.
 ghost use mathlib.Core.Path.{_≡_};
 ghost use mathlib.Core.List.{[]};
 ghost use Rattle.exchange.specs.Steps.{step};
 ghost use Rattle.gateway.specs.declared.table.Engine.{Engine};
-ghost use Rattle.gateway.specs.Calls.{admit, retire, onTicket};
-ghost use Rattle.results.specs.Calls.{outcomeOf, admitResult, stepResult};
+ghost use Rattle.gateway.specs.Calls.{admit, retire, onTicket, reporting};
+ghost use Rattle.results.specs.Calls.{Does, outcomeOf, admitResult, stepResult, reportResult};
 ghost use Rattle.results.specs.Helpers.{Changes};
 use crate::gateway_calls::AdmitDone;
+use crate::gateway_calls::ReportResult;
 use crate::gateway_calls::admit_result;
+use crate::gateway_calls::report_result;
 use crate::gateway_calls::retire_result;
 use crate::gateway_calls::step_result;
 use crate::outcome::NumberResult;
@@ -77,4 +79,12 @@ pub fn retire(gateway: Gateway, key_id: u8) -> RetireChanged
         change,
         result: retire_result(answer),
     }
+}
+
+// Report, in which they do not differ either: last ticket, number pending, and each key's count and retirement. Nothing changes.
+pub fn report(gateway: Gateway) -> ReportResult
+    ensures { λ r. ⌜ ((engine : Engine) → Does engine reportResult reporting gateway gateway r []) ⌝ }
+{
+    let report = gateway.report();
+    report_result(report)
 }

@@ -11,11 +11,11 @@ ghost use Rattle.exchange.specs.Steps.{step, bare, openResult, respond, abandon
 ghost use Rattle.keys.specs.Keys.{keysOf};
 ghost use Rattle.keys.specs.Stored.{oneMore};
 ghost use Rattle.keys.specs.Helpers.{foundKey};
-ghost use Rattle.gateway.specs.declared.table.Engine.{Engine};
 ghost use Rattle.gateway.specs.Registry.{setup, setupAnswer};
 ghost use Rattle.gateway.specs.Gateway.{freshGateway};
-ghost use Rattle.gateway.specs.Calls.{reporting, ofAdmit, ofRetire};
-ghost use Rattle.results.specs.Calls.{Does, ticketResult, outcomeOf, problemType, setupResult, admitResult, stepResult, reportResult};
+ghost use Rattle.gateway.specs.Helpers.{reportFrom};
+ghost use Rattle.gateway.specs.Calls.{ofAdmit, ofRetire, ofReport};
+ghost use Rattle.results.specs.Calls.{ticketResult, outcomeOf, problemType, setupResult, admitResult, stepResult, reportResult};
 ghost use Rattle.results.specs.Helpers.{Admits, Moves, Retires};
 use crate::outcome::NumberResult;
 use crate::outcome::Outcome;
@@ -251,23 +251,15 @@ pub fn retire(key: KeyState, there: bool) -> RetireDone
     }
 }
 
-// Report: last ticket, number pending, and each key's count and retirement. Nothing changes.
-pub fn report(gateway: Gateway) -> ReportResult
-    ensures { λ r. ⌜ Does Engine.Fast reportResult reporting gateway gateway r [] ⌝ }
-{
-    let report = gateway.report();
-    report_result(report)
-}
-
-// The same of a last ticket, a number pending and keys.
-pub fn report_of(last_ticket: Ticket, pending: usize, keys: Keys) -> ReportResult
+// Report: last ticket, number pending, and each key's count and retirement, of what it reads of the gateway.
+pub fn report(last_ticket: Ticket, pending: usize, keys: Keys) -> ReportResult
     ensures { λ r. ⌜ r ≡ reportResult (ofReport (reportFrom «last_ticket» pending keys)) ⌝ }
 {
     let report = gateway::report_of(last_ticket, pending, keys);
     report_result(report)
 }
 
-fn report_result(report: Report) -> ReportResult
+pub(crate) fn report_result(report: Report) -> ReportResult
     ensures { λ r. ⌜ r ≡ reportResult (ofReport report) ⌝ }
 {
     let keys = report.keys;

@@ -40,7 +40,8 @@ use denote.Exit.{yes}
 use borrow.Author.Tests.{lt-ltb}
 use Rattle.wire.proofs.Booleans.{and-false}
 use Rattle.gateway.specs.declared.Gateway.{Gateway}
-use Rattle.gateway.specs.Gateway.{placeBy, plain, fast, home}
+use Rattle.gateway.specs.declared.table.Engine.{Engine}
+use Rattle.gateway.specs.Gateway.{placeBy, home}
 use Rattle.gateway.specs.Helpers.{hasNumber}
 use Rattle.gateway.proofs.Gateway as gateway
 use Rattle.host.proofs.Locals.{has, frees-locals}
@@ -55,13 +56,13 @@ stayed = (gave-ref (0 ∷ []) tt (by-value (λ _. gateway.the-row)), (stay-none 
 -- ---- the search
 module _ (g : Gateway) (ticket near : ℕ) where
   abbrev sought : ℕ
-  sought = placeBy fast near (hasNumber ticket) (g .table)
+  sought = placeBy Engine.Fast near (hasNumber ticket) (g .table)
 
   at-home : home near < length (g .table) → hasNumber ticket (exchange-in g (home near)) ≡ true → home near ≡ sought
   unfolding placeBy
   at-home inside here = rw (lt-ltb (home near) (length (g .table)) inside, here)
 
-  elsewhere : hasNumber ticket (exchange-in g (home near)) ≡ false → (r : ℕ) → r ≡ placeBy plain ticket (hasNumber ticket) (g .table) → r ≡ sought
+  elsewhere : hasNumber ticket (exchange-in g (home near)) ≡ false → (r : ℕ) → r ≡ placeBy Engine.Plain ticket (hasNumber ticket) (g .table) → r ≡ sought
   unfolding placeBy
   elsewhere other r is = rw (and-false _ _ other) is
 
@@ -158,7 +159,7 @@ module _ {M : Type 1} (𝓤 : URA M) (H : Heap 𝓤) (A : Atoms 𝓤) (W : Given
           calls-at ! fm Plain-find plain-find-meets to-plain-find
           (and-then ! (load ! (from ! (stop !)) (look ! 1 refl)) (and-then ! (load ! (from ! (stop !)) (look ! 19 refl)) (no-more !))) (λ v.
           returned ! plain-find.ended (plain-find.clauses 𝓤 H A at-mem run) to-plain-find v
-          (λ r ws. (r ≡ placeBy plain ticket (hasNumber ticket) (g .table)) × (ws .0 ≡ g)) tt (λ r ws. id⊢ 𝓤 _) (λ r ws said.
+          (λ r ws. (r ≡ placeBy Engine.Plain ticket (hasNumber ticket) (g .table)) × (ws .0 ≡ g)) tt (λ r ws. id⊢ 𝓤 _) (λ r ws said.
           peeks ! usize (Is usize) (shows 𝓤 H A usize) r (v ∷ []) (λ is.
           land ! (from ! (stop !)) (init ! 25 refl (uint-lawful 𝓤 H A W w64 .typed r (v ∷ []) is .0)) $
           -- [what the answer owns; the tokens; the gateway's last value; the locals, from the last; …]

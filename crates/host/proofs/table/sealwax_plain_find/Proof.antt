@@ -43,7 +43,8 @@ use Rattle.wire.proofs.Booleans.{either}
 use Rattle.wire.proofs.Matches.{first-at, first-none}
 use Rattle.exchange.specs.Exchange.{free}
 use Rattle.gateway.specs.declared.Gateway.{Gateway}
-use Rattle.gateway.specs.Gateway.{placeBy, plain}
+use Rattle.gateway.specs.declared.table.Engine.{Engine}
+use Rattle.gateway.specs.Gateway.{placeBy}
 use Rattle.gateway.specs.Helpers.{hasNumber}
 use Rattle.gateway.proofs.Gateway as gateway
 use Rattle.host.proofs.Locals.{has, empty, from-last, frees-locals}
@@ -57,7 +58,7 @@ stayed = (stay-ref (0 ∷ []) tt (by-value (λ _. gateway.the-row)), (stay-none 
 -- ---- the search
 module _ (g : Gateway) (ticket : ℕ) where
   abbrev sought : ℕ
-  sought = placeBy plain ticket (hasNumber ticket) (g .table)
+  sought = placeBy Engine.Plain ticket (hasNumber ticket) (g .table)
 
   -- no place below k has the number
   abbrev NoneBelow : ℕ → Type 0
