@@ -10,10 +10,12 @@ ghost use Rattle.gateway.specs.Gateway.{freshGateway};
 ghost use Rattle.gateway.specs.Calls.{admit, retire, onTicket, reporting};
 ghost use Rattle.results.specs.Calls.{Does, outcomeOf, setupResult, admitResult, stepResult, reportResult};
 use crate::change::apply;
+use crate::key_search::find_key;
 use crate::pending::count_pending;
 use crate::table::sealwax_find;
 use gateway::Gateway;
 use gateway::table::inside;
+use keys::key_place;
 use results::gateway_calls;
 use results::gateway_calls::AdmitResult;
 use results::gateway_calls::ReportResult;
@@ -41,7 +43,8 @@ pub extern "C" fn sealwax_admit(
     ensures { λ r. ⌜ Does Engine.Fast admitResult (admit (now (request .entry)) (now (info .entry)))
         (now (gateway .entry)) (now (gateway .exit)) r (now (info .exit)) ⌝ }
 {
-    let key = gateway_calls::named_key(gateway.keys, request);
+    let found = find_key(gateway, gateway_calls::key_id(request));
+    let key = key_place(found, gateway.keys.count);
     let key_place = key.place;
     let next = gateway_calls::next_ticket(gateway.last_ticket);
     let place = inside(sealwax_find(gateway, 0, next));
@@ -112,7 +115,8 @@ pub extern "C" fn sealwax_abandon(gateway: &mut Gateway, ticket: u64) -> Outcome
 pub extern "C" fn sealwax_retire(gateway: &mut Gateway, key_id: u8) -> Outcome
     ensures { λ r. ⌜ Does Engine.Fast outcomeOf (retire «key_id») (now (gateway .entry)) (now (gateway .exit)) r [] ⌝ }
 {
-    let key = gateway_calls::key_with(gateway.keys, key_id);
+    let found = find_key(gateway, key_id);
+    let key = key_place(found, gateway.keys.count);
     let place = key.place;
     let done = gateway_calls::retire(gateway.keys.list[place], key.there);
     gateway.keys.list[place] = done.key;

@@ -4,6 +4,7 @@
 pub mod change;
 pub mod client_calls;
 pub mod gateway_calls;
+pub mod key_search;
 pub mod list_calls;
 pub mod pending;
 pub mod sizes;

@@ -1,15 +1,16 @@
 -- What only the contracts of functions below the entries cite: a reader of the rules can skip this file.
-use Prim.Native.Nat.{ℕ}
+use Prim.Native.Nat.{ℕ, min}
 use mathlib.Core.Bool.{Bool, false, not}
 use mathlib.Core.List.{List, [], _∷_}
 use lib.Dec.{eqb, leb, ltb}
 use lib.ListN.{length, getD}
 use Rattle.wire.specs.Tests.{pick}
 use Rattle.wire.specs.Refusals.{_when_otherwise_}
-use Rattle.keylist.specs.Layout.{Configuration, Result, good, bad}
+use Rattle.keylist.specs.Layout.{Configuration, Result, good, bad, mostConfigurations}
 use Rattle.keylist.specs.Answers.{checked}
 use Rattle.request.specs.declared.Request.{Request}
 use Rattle.keys.specs.declared.Keys.{Keys}
+use Rattle.keys.specs.declared.KeyState.{KeyState}
 use Rattle.keys.specs.declared.KeysRead.{KeysRead}
 use Rattle.keys.specs.declared.KeyPlace.{KeyPlace}
 use Rattle.keys.specs.Keys.{Key, offers}
@@ -48,6 +49,16 @@ abbrev pub foundKey : ℕ → List Key → KeyPlace
 foundKey id keys =
     let there = ltb (placeOfKey id keys) (length keys) in
     record { place = pick there (placeOfKey id keys) 0; there = there }
+
+-- the stored key has the id
+abbrev pub hasKeyId : ℕ → KeyState → Bool
+hasKeyId id k = eqb (k .id .0) id
+
+-- the same by the first place of the array that has the id, whether it counts or not, and by the number of keys
+abbrev pub keyPlaceAt : ℕ → ℕ → KeyPlace
+keyPlaceAt found count =
+    let there = ltb found (min count mostConfigurations) in
+    record { place = pick there found 0; there = there }
 
 -- the keys of a list; none where it is refused
 unfoldable pub keysFrom : Result (List Configuration) → Keys

@@ -8,7 +8,7 @@ ghost use lib.ListN.{length};
 ghost use Rattle.keylist.specs.Layout.{parse, layoutHolds, configurationAt, pairsAt, isPair, mostConfigurations};
 ghost use Rattle.keylist.specs.Helpers.{IsGood};
 ghost use Rattle.keys.specs.Keys.{offers, reportOf, storedReports, keyOf, keysOf, padded};
-ghost use Rattle.keys.specs.Helpers.{keyRefusal, retireRefusalAt, given, foundKey, keysFrom, keysRead};
+ghost use Rattle.keys.specs.Helpers.{keyRefusal, retireRefusalAt, given, foundKey, keyPlaceAt, keysFrom, keysRead};
 ghost use Rattle.keys.specs.Stored.{mostPairs, noPair, blankKey, storedKey, storedKeys, oneMore, usedState, retiredState, placeOfKey};
 use algorithms::Aead;
 use algorithms::Kdf;
@@ -283,6 +283,29 @@ impl Keys {
             at += 1;
         }
         reports
+    }
+}
+
+// The key at the first place of the array that has an id, by the number of keys.
+pub fn key_place(found: usize, count: u8) -> KeyPlace
+    ensures place { λ r. ⌜ r ≡ keyPlaceAt found count ⌝ }
+    ensures inside { λ r. ⌜ r .place < mostConfigurations ⌝ }
+{
+    if MOST_CONFIGURATIONS <= found {
+        return KeyPlace {
+            place: 0,
+            there: false,
+        };
+    }
+    if (count as usize) <= found {
+        return KeyPlace {
+            place: 0,
+            there: false,
+        };
+    }
+    KeyPlace {
+        place: found,
+        there: true,
     }
 }
 

@@ -1,16 +1,12 @@
 // Setup and the six calls, as hosts get them: each answers a plain struct. Those that change the gateway are given what they read of it, and answer what
 // they change.
 ghost use mathlib.Core.Path.{_≡_};
-ghost use Prim.Native.Nat.{_<_};
 ghost use mathlib.Core.Bool.{not};
 ghost use mathlib.Core.List.{[]};
 ghost use lib.Dec.{eqb};
-ghost use Rattle.keylist.specs.Layout.{mostConfigurations};
 ghost use Rattle.request.specs.Request.{keyIdOf};
 ghost use Rattle.exchange.specs.Steps.{step, bare, openResult, respond, abandon};
-ghost use Rattle.keys.specs.Keys.{keysOf};
 ghost use Rattle.keys.specs.Stored.{oneMore};
-ghost use Rattle.keys.specs.Helpers.{foundKey};
 ghost use Rattle.gateway.specs.Registry.{setup, setupAnswer};
 ghost use Rattle.gateway.specs.Gateway.{freshGateway};
 ghost use Rattle.gateway.specs.Helpers.{reportFrom};
@@ -31,9 +27,7 @@ use gateway::SetupAnswer;
 use gateway::admission;
 use gateway::change;
 use gateway::change::Change;
-use keylist::KeyId;
 use keylist::check::MOST_CONFIGURATIONS;
-use keys::KeyPlace;
 use keys::KeyReport;
 use keys::KeyState;
 use keys::Keys;
@@ -106,20 +100,11 @@ pub fn setup(list: &[u8], cap: u64) -> SetupDone
     }
 }
 
-// The key that a request names.
-pub fn named_key(keys: Keys, request: &[u8]) -> KeyPlace
-    ensures place { λ r. ⌜ r ≡ foundKey (keyIdOf (now (request .entry))) (keysOf keys) ⌝ }
-    ensures inside { λ r. ⌜ r .place < mostConfigurations ⌝ }
+// The id of the key that a request names.
+pub fn key_id(request: &[u8]) -> u8
+    ensures { λ r. ⌜ r ≡ keyIdOf (now (request .entry)) ⌝ }
 {
-    keys.find(KeyId(byte_at(request, 0)))
-}
-
-// The key with an id.
-pub fn key_with(keys: Keys, key_id: u8) -> KeyPlace
-    ensures place { λ r. ⌜ r ≡ foundKey «key_id» (keysOf keys) ⌝ }
-    ensures inside { λ r. ⌜ r .place < mostConfigurations ⌝ }
-{
-    keys.find(KeyId(key_id))
+    byte_at(request, 0)
 }
 
 // The ticket that the next admission gets.
