@@ -11,10 +11,11 @@ use Rattle.keys.specs.Keys.{Key}
 use Rattle.keys.specs.Helpers.{noKey, keyAt}
 use Rattle.keys.specs.Stored.{placeOfKey}
 use Rattle.gateway.specs.declared.Gateway.{Gateway}
-use Rattle.gateway.specs.Gateway.{freshGateway, freePlace, nextTicket, gatewayDoes, gatewayAdmitNumber}
+use Rattle.gateway.specs.declared.table.Engine.{Engine}
+use Rattle.gateway.specs.Gateway.{freePlace, nextTicket, gatewayDoes, gatewayAdmitNumber}
 use Rattle.gateway.specs.View.{registryOf, isFull}
 use Rattle.gateway.specs.Calls.{admit, number}
-use Rattle.book.specs.Book.{Book, freshBook}
+use Rattle.book.specs.Book.{Book}
 use Rattle.book.specs.History.{gatewayAfter}
 use Rattle.book.specs.OneCall.{Admissible, AdmissionExactly}
 use Rattle.book.specs.Storage.{PlaceIsFree}
@@ -24,12 +25,13 @@ use Rattle.book.proofs.Numbers.{admit-number}
 use Rattle.book.proofs.Admitting.{place-of, admissible, admitted-then}
 use Rattle.book.proofs.KeyCounts.{place-of-id}
 use Rattle.book.proofs.Refining.{Alike, keys-alike}
-use Rattle.book.proofs.Refinement.{fresh-alike, alike-after}
+use Rattle.book.proofs.Refinement.{alike-end}
 
 -- the number of admit's answer
-withNumber : (g : Gateway) (request info : List ℕ) → number (gatewayDoes g (admit request info) .answer) ≡ gatewayAdmitNumber request info g
+withNumber : (engine : Engine) (g : Gateway) (request info : List ℕ)
+    → number (gatewayDoes engine g (admit request info) .answer) ≡ gatewayAdmitNumber request info g
 unfolding gatewayDoes
-withNumber g request info = admit-number (gatewayAdmitNumber request info g) (nextTicket g) request
+withNumber engine g request info = admit-number (gatewayAdmitNumber request info g) (nextTicket g) request
 
 -- the key that is named is the first of its id
 first-named : (g : Gateway) (b : Book) (request info : List ℕ) (h : Admissible g request info) → Alike g b → (place : ℕ)
@@ -41,25 +43,25 @@ first-named g b request info h r place inside is =
 
 pub admission-exactly : AdmissionExactly
 admission-exactly list cap calls request info =
-    let r = alike-after (freshGateway list cap) (freshBook list cap) calls (fresh-alike list cap) in (
-      λ e. admissible _ request info (sym (withNumber _ request info) ∙ e),
+    let r = alike-end list cap calls in (
+      λ e. admissible _ request info (sym (withNumber Engine.Fast _ request info) ∙ e),
       λ h.
           let p = place-of noKey (h .key) (registryOf (gatewayAfter list cap calls) .keys) (h .isKey) in
-          withNumber _ request info ∙ admitted-then _ request info h (p .0) (p .1) (p .2) (first-named _ _ request info h r (p .0) (p .1) (p .2)),
+          withNumber Engine.Fast _ request info ∙ admitted-then _ request info h (p .0) (p .1) (p .2) (first-named _ _ request info h r (p .0) (p .1) (p .2)),
     )
 
 -- an accepted admit puts its exchange at a place that was free
 pub place-is-free : PlaceIsFree
 unfolding gatewayDoes
-place-is-free g request info e =
-    let none = sym (withNumber g request info) ∙ e in
+place-is-free engine g request info e =
+    let none = sym (withNumber engine g request info) ∙ e in
     let room = admit-accepted (registryOf g) (isFull (g .table)) request (length info) none .room in
-    let place = freePlace (g .table) in
+    let place = freePlace engine (nextTicket g) (g .table) in
     let new = asked (nextTicket g) (fieldsOf request) in
     rw none (record {
       place = place;
-      inside = place-inside (g .table) room;
-      wasFree = place-free (g .table) room;
-      holdsNew = getD-set-same (g .table) place new free (place-inside (g .table) room);
+      inside = place-inside engine (nextTicket g) (g .table) room;
+      wasFree = place-free engine (nextTicket g) (g .table) room;
+      holdsNew = getD-set-same (g .table) place new free (place-inside engine (nextTicket g) (g .table) room);
       others = λ other h. getD-set-other (g .table) place other new free h;
     })

@@ -27,6 +27,7 @@ use Rattle.keys.specs.Keys.{Key, hasId, offers}
 use Rattle.keys.specs.Helpers.{noKey, keyAt, keyRefusal}
 use Rattle.keylist.specs.Layout.{isPair}
 use Rattle.gateway.specs.declared.Gateway.{Gateway}
+use Rattle.gateway.specs.declared.table.Engine.{Engine}
 use Rattle.gateway.specs.Gateway.{freePlace, gatewayAdmitNumber}
 use Rattle.gateway.specs.View.{registryOf, isFull}
 use Rattle.gateway.proofs.Deciding.{none-of-both, both-none, admit-order}
@@ -150,7 +151,7 @@ admissible g request info e =
       aeadKnown = and-right (knownKdf (kdfOf request)) (knownAead (aeadOf request)) known;
       pairOffered = listed-pair (kdfOf request) (aeadOf request) (key .pairs) (and-right (knownPair (kdfOf request) (aeadOf request)) pairs (u .pair));
       uses = u .uses;
-      freePlaceThere = (_, element-at free (g .table) (freePlace (g .table)) (place-inside (g .table) (c .0)), place-free (g .table) (c .0));
+      freePlaceThere = (_, element-at free (g .table) (freePlace Engine.Plain 0 (g .table)) (place-inside Engine.Plain 0 (g .table) (c .0)), place-free Engine.Plain 0 (g .table) (c .0));
       room = ltb-false (length info) infoLength (d .0);
     }
 

@@ -25,7 +25,7 @@ use Rattle.book.specs.Counts.{Counts, CountsHold, countingFrom}
 use Rattle.book.specs.Storage.{NothingWraps}
 use Rattle.book.proofs.KeyCounts.{same-id, same-length, fresh-count, each-key}
 use Rattle.book.proofs.Sound.{Sound, ticket-bound}
-use Rattle.book.proofs.Refinement.{fresh-alike, alike-after, alike-end, refinement-holds}
+use Rattle.book.proofs.Refinement.{fresh-alike, alike-end, refinement-holds}
 use Rattle.book.proofs.Counting.{ids-after, counted, given-after}
 
 -- at first counts and last ticket are 0
@@ -65,7 +65,7 @@ book-counts list cap calls start end =
 pub counts-hold : CountsHold
 counts-hold list cap calls =
     let fresh = fresh-alike list cap in
-    let end = alike-after (freshGateway list cap) (freshBook list cap) calls fresh in
+    let end = alike-end list cap calls in
     rw (end .registry, refinement-holds list cap calls .sameAnswers) (book-counts list cap calls (fresh .sound) (end .sound))
 
 -- the counts of stored keys with one use more, by the keys

@@ -13,7 +13,7 @@ use Rattle.exchange.specs.Steps.{refusalBy, stepNumber}
 use Rattle.keys.specs.Stored.{storedKeys}
 use Rattle.keys.specs.Keys.{keysOf, retireRefusal, withKey}
 use Rattle.gateway.specs.Registry.{admitRefusal}
-use Rattle.gateway.specs.Gateway.{freePlace, gatewayDoes}
+use Rattle.gateway.specs.Gateway.{placeBy, gatewayDoes}
 use Rattle.gateway.specs.Calls.{number}
 use Rattle.book.specs.History.{trace, final, ticketsOf}
 use Rattle.book.specs.Counts.{ticketsGiven}
@@ -22,7 +22,7 @@ use Rattle.book.specs.Demand3.{withOwnCalls}
 use Rattle.book.specs.Edges.{GatewayEdges, MovedExample}
 
 pub gateway-edges : GatewayEdges
-unfolding ascii requestLabel firstPlace anyPasses table rowOf knownKem knownKdf knownAead encLength publicKeyLength keyLength parse parseFrom layoutHolds configurationAt pairsAt hex edgeList leftIn refusalBy keysOf storedKeys admitRefusal freePlace filtered gatewayDoes number trace final ticketsOf ticketsGiven stepNumber find retireRefusal withKey
+unfolding ascii requestLabel firstPlace anyPasses table rowOf knownKem knownKdf knownAead encLength publicKeyLength keyLength parse parseFrom layoutHolds configurationAt pairsAt hex edgeList leftIn refusalBy keysOf storedKeys admitRefusal placeBy filtered gatewayDoes number trace final ticketsOf ticketsGiven stepNumber find retireRefusal withKey
 gateway-edges =
     record {
       lists = list-edges;
@@ -47,5 +47,5 @@ gateway-edges =
     }
 
 pub moved-example : MovedExample
-unfolding ascii requestLabel firstPlace anyPasses table rowOf knownKem knownKdf knownAead encLength publicKeyLength keyLength parse parseFrom layoutHolds configurationAt pairsAt hex edgeList leftIn refusalBy keysOf storedKeys admitRefusal freePlace filtered gatewayDoes number trace final ticketsOf ticketsGiven bookDoes replaced withOwnCalls stepNumber find retireRefusal withKey
+unfolding ascii requestLabel firstPlace anyPasses table rowOf knownKem knownKdf knownAead encLength publicKeyLength keyLength parse parseFrom layoutHolds configurationAt pairsAt hex edgeList leftIn refusalBy keysOf storedKeys admitRefusal placeBy filtered gatewayDoes number trace final ticketsOf ticketsGiven bookDoes replaced withOwnCalls stepNumber find retireRefusal withKey
 moved-example = record { order = refl; sameAnswers = refl }

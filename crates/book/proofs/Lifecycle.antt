@@ -17,13 +17,14 @@ use Rattle.exchange.specs.Steps.{Step, refusal, next, closes}
 use Rattle.exchange.proofs.Moves.{next-not-asked, closed-free}
 use Rattle.exchange.proofs.Steps.{accepted-pending, free-refuses, not-asked-silent}
 use Rattle.gateway.specs.declared.Gateway.{Gateway}
-use Rattle.gateway.specs.Gateway.{freshGateway, gatewayDoes, placeOfTicket}
+use Rattle.gateway.specs.declared.table.Engine.{Engine}
+use Rattle.gateway.specs.Gateway.{freshGateway, gatewayDoes, pendingWith}
 use Rattle.gateway.specs.Calls.{Call, onTicket, number, unprotectedStatus}
 use Rattle.book.specs.Book.{Book, freshBook, bookDoes, bookStepNumber}
 use Rattle.book.specs.History.{final, gatewayAfter, Accepts}
 use Rattle.book.specs.Demand3.{bookAfter}
 use Rattle.book.specs.Lifecycle.{LifecycleHolds}
-use Rattle.book.specs.Storage.{ClosedPlaceIsFree}
+use Rattle.book.specs.Storage.{placeBefore, ClosedPlaceIsFree}
 use Rattle.book.proofs.Passing.{passing, passing-permuted}
 use Rattle.book.proofs.Table.{holding, holding-pending}
 use Rattle.book.proofs.Numbers.{step-number}
@@ -76,21 +77,21 @@ place-freed (e ∷ es) (suc place) = place-freed es place
 
 -- the number of an answer to a call on a ticket
 step-told : (g : Gateway) (ticket : ℕ) (step : Step)
-    → number (gatewayDoes g (onTicket ticket step) .answer) ≡ refusal step (exchangeOf ticket (g .table))
+    → number (gatewayDoes Engine.Fast g (onTicket ticket step) .answer) ≡ refusal step (pendingWith Engine.Fast ticket (g .table))
 unfolding gatewayDoes
-step-told g ticket step = step-number step (exchangeOf ticket (g .table))
+step-told g ticket step = step-number step (pendingWith Engine.Fast ticket (g .table))
 
 -- a call on a ticket that the gateway accepts
 module _ (list : List ℕ) (cap : ℕ) (calls : List Call) (ticket : ℕ) (step : Step) (accepted : Accepts list cap calls (onTicket ticket step)) where
   -- is accepted by the book
   book-accepts : bookStepNumber ticket step (bookAfter list cap calls) ≡ 0
   book-accepts =
-      rw (← found-told ticket _ _ (alike-end list cap calls)) (sym (step-told (gatewayAfter list cap calls) ticket step) ∙ accepted)
+      rw (← found-told Engine.Fast ticket _ _ (alike-end list cap calls)) (sym (step-told (gatewayAfter list cap calls) ticket step) ∙ accepted)
 
   -- where what it leaves has a property that lasts, what later calls find has it
   left-lasts : (P : Exchange → Type 0) → P free → ((later : Step) (e : Exchange) → refusal later e ≡ 0 → P e → P (next later e))
       → P (next step (exchangeOf ticket (bookAfter list cap calls .pending))) → (between : List Call)
-      → P (exchangeOf ticket (gatewayAfter list cap (calls ++ onTicket ticket step ∷ between) .table))
+      → P (pendingWith Engine.Fast ticket (gatewayAfter list cap (calls ++ onTicket ticket step ∷ between) .table))
   unfolding final bookDoes
   left-lasts P none kept left between =
       let b = bookAfter list cap calls in
@@ -100,38 +101,38 @@ module _ (list : List ℕ) (cap : ℕ) (calls : List Call) (ticket : ℕ) (step 
         found = replaced-found P none ticket (next step (exchangeOf ticket (b .pending))) (b .pending) left;
       }) in
       rw (
-        found-told ticket _ _ (alike-end list cap (calls ++ onTicket ticket step ∷ between)),
+        found-told Engine.Fast ticket _ _ (alike-end list cap (calls ++ onTicket ticket step ∷ between)),
         final-append bookDoes (freshBook list cap) calls (onTicket ticket step ∷ between),
       ) (has-after P none kept ticket (bookDoes b (onTicket ticket step) .state) between start .found)
 
   -- where it closes, later calls find none
   closed-lasts : closes (step .kind) ≡ true → (between : List Call)
-      → isFree (exchangeOf ticket (gatewayAfter list cap (calls ++ onTicket ticket step ∷ between) .table)) ≡ true
+      → isFree (pendingWith Engine.Fast ticket (gatewayAfter list cap (calls ++ onTicket ticket step ∷ between) .table)) ≡ true
   closed-lasts closing =
       left-lasts (λ e. isFree e ≡ true) refl
       (λ later e z f. absurd (true-or-false f (accepted-pending later e z)))
       (rw (closed-free (step .kind) (exchangeOf ticket (bookAfter list cap calls .pending)) closing))
 
   -- the exchange stands in the table
-  place-inside : placeOfTicket ticket (gatewayAfter list cap calls .table) < length (gatewayAfter list cap calls .table)
+  place-inside : placeBefore list cap calls ticket < length (gatewayAfter list cap calls .table)
   place-inside =
       let table = gatewayAfter list cap calls .table in
-      let place = firstPlace (hasTicket ticket) table in
-      let found = accepted-pending step (exchangeOf ticket table) (sym (step-told (gatewayAfter list cap calls) ticket step) ∙ accepted) in
+      let place = placeBefore list cap calls ticket in
+      let found = accepted-pending step (pendingWith Engine.Fast ticket table) (sym (step-told (gatewayAfter list cap calls) ticket step) ∙ accepted) in
       either (ltb place (length table)) (λ l. ltb-true place (length table) l)
       (λ l. absurd (true-or-false (ap isFree (List·getD-eq-default table free (ltb-false place (length table) l))) found))
 
   -- and the place where the exchange stood is free
   place-free : closes (step .kind) ≡ true
       → getD (gatewayAfter list cap (calls ++ onTicket ticket step ∷ []) .table)
-      (placeOfTicket ticket (gatewayAfter list cap calls .table)) free
+      (placeBefore list cap calls ticket) free
       ≡ free
   unfolding final gatewayDoes
   place-free closing =
       let g = gatewayAfter list cap calls in
-      let e = exchangeOf ticket (g .table) in
-      rw (final-append gatewayDoes (freshGateway list cap) calls (onTicket ticket step ∷ []), sym (step-told g ticket step) ∙ accepted, closed-free (step .kind) e closing)
-      (place-freed (g .table) (firstPlace (hasTicket ticket) (g .table)))
+      let e = pendingWith Engine.Fast ticket (g .table) in
+      rw (final-append (gatewayDoes Engine.Fast) (freshGateway list cap) calls (onTicket ticket step ∷ []), sym (step-told g ticket step) ∙ accepted, closed-free (step .kind) e closing)
+      (place-freed (g .table) (placeBefore list cap calls ticket))
 
 pub lifecycle-holds : LifecycleHolds
 unfolding gatewayDoes unprotectedStatus

@@ -4,10 +4,9 @@ use mathlib.Core.Path.{_≡_, refl}
 use mathlib.Core.List.{List}
 use Prim.Native.Nat.{ℕ, zero, suc}
 use Rattle.wire.specs.Refusals.{unlessRefused}
-use Rattle.exchange.specs.Exchange.{exchangeOf}
 use Rattle.exchange.proofs.Steps.{step-unprotected}
 use Rattle.gateway.specs.Registry.{statusOf, admitAnswer}
-use Rattle.gateway.specs.Gateway.{nextTicket, gatewayDoes, gatewayAdmitNumber}
+use Rattle.gateway.specs.Gateway.{pendingWith, nextTicket, gatewayDoes, gatewayAdmitNumber}
 use Rattle.gateway.specs.Calls.{admit, retire, onTicket, reporting, ofAdmit, unprotectedStatus}
 use Rattle.book.specs.OneCall.{UnprotectedExactly}
 
@@ -19,7 +18,7 @@ admit-status (suc n) ticket request = refl
 
 pub unprotected-exactly : UnprotectedExactly
 unfolding gatewayDoes unprotectedStatus
-unprotected-exactly g (admit request info) = admit-status (gatewayAdmitNumber request info g) (nextTicket g) request
-unprotected-exactly g (retire id) = refl
-unprotected-exactly g (onTicket ticket step) = step-unprotected step (exchangeOf ticket (g .table))
-unprotected-exactly g reporting = refl
+unprotected-exactly engine g (admit request info) = admit-status (gatewayAdmitNumber request info g) (nextTicket g) request
+unprotected-exactly engine g (retire id) = refl
+unprotected-exactly engine g (onTicket ticket step) = step-unprotected step (pendingWith engine ticket (g .table))
+unprotected-exactly engine g reporting = refl

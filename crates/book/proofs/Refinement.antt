@@ -1,9 +1,9 @@
--- The refinement: with no call struck or moved, gateway and book give the same answers and bytes, and end alike.
+-- The refinement: with no call struck or moved, gateway and book give the same answers and bytes, and end alike, by whatever engines; so the engines agree.
 -- Assumes nothing.
 use Prim.Native.Nat.{ℕ}
 use mathlib.Core.Bool.{true}
-use mathlib.Core.Path.{_≡_, refl}
-use mathlib.Core.List.{List, [], _∷_, _++_, map, List·Permᴰ·nil}
+use mathlib.Core.Path.{_≡_, refl, sym, _∙_}
+use mathlib.Core.List.{List, [], _∷_, _++_, map, List·Permᴰ·nil, List·Permᴰ·trans, Permᴰ·symm}
 use Rattle.wire.specs.Search.{filtered}
 use Rattle.wire.proofs.Booleans.{either}
 use Rattle.keylist.specs.Layout.{Configuration, good, bad, parse, Result}
@@ -12,13 +12,15 @@ use Rattle.keys.specs.Stored.{storedKeys}
 use Rattle.keys.specs.Helpers.{keysFrom}
 use Rattle.keys.specs.Keys.{freshKey, keysOf}
 use Rattle.gateway.specs.declared.Gateway.{Gateway}
+use Rattle.gateway.specs.declared.table.Engine.{Engine}
 use Rattle.gateway.specs.Registry.{Registry, capHolds, withCap, registryFrom}
-use Rattle.gateway.specs.Gateway.{emptyGateway, gatewayFrom, freshGateway, gatewayDoes}
+use Rattle.gateway.specs.Gateway.{emptyGateway, gatewayFrom, freshGateway}
 use Rattle.gateway.specs.View.{registryOf}
 use Rattle.gateway.specs.Calls.{Call, Done}
 use Rattle.book.specs.Book.{Book, freshBook, bookDoes}
 use Rattle.book.specs.History.{trace, final, gatewayAfter}
 use Rattle.book.specs.Demand3.{bookAfter, RefinementHolds}
+use Rattle.book.specs.Engines.{doesBy, EnginesAgreeHolds}
 use Rattle.keys.proofs.Views.{parsed-view, stored-view}
 use Rattle.book.proofs.Sound.{Sound, refused-sound, ready-sound}
 use Rattle.book.proofs.Refining.{Alike, same-answer, same-buffer, alike-kept}
@@ -51,21 +53,31 @@ fresh-alike list cap = fresh (parse list) refl
     fresh (bad r) e = refused-alike
 
 -- along a history
-same-trace : (g : Gateway) (b : Book) (calls : List Call) → Alike g b → trace gatewayDoes g calls ≡ trace bookDoes b calls
-unfolding trace
-same-trace g b [] r = refl
-same-trace g b (call ∷ calls) r =
-    rw (
-      same-answer g b call r,
-      same-buffer g b call r,
-      same-trace (gatewayDoes g call .state) (bookDoes b call .state) calls (alike-kept g b call r),
-    )
+module _ (choice : Gateway → Call → Engine) where
+  same-trace : (g : Gateway) (b : Book) (calls : List Call) → Alike g b → trace (doesBy choice) g calls ≡ trace bookDoes b calls
+  unfolding trace
+  same-trace g b [] r = refl
+  same-trace g b (call ∷ calls) r =
+      rw (
+        same-answer (choice g call) g b call r,
+        same-buffer (choice g call) g b call r,
+        same-trace (doesBy choice g call .state) (bookDoes b call .state) calls (alike-kept (choice g call) g b call r),
+      )
 
-pub alike-after : (g : Gateway) (b : Book) (calls : List Call) → Alike g b → Alike (final gatewayDoes g calls) (final bookDoes b calls)
-unfolding final
-alike-after g b [] r = r
-alike-after g b (call ∷ calls) r =
-    alike-after (gatewayDoes g call .state) (bookDoes b call .state) calls (alike-kept g b call r)
+  alike-by : (g : Gateway) (b : Book) (calls : List Call) → Alike g b → Alike (final (doesBy choice) g calls) (final bookDoes b calls)
+  unfolding final
+  alike-by g b [] r = r
+  alike-by g b (call ∷ calls) r =
+      alike-by (doesBy choice g call .state) (bookDoes b call .state) calls (alike-kept (choice g call) g b call r)
+
+  -- from setup
+  pub alike-chosen : (list : List ℕ) (cap : ℕ) (calls : List Call)
+      → Alike (final (doesBy choice) (freshGateway list cap) calls) (bookAfter list cap calls)
+  alike-chosen list cap calls = alike-by (freshGateway list cap) (freshBook list cap) calls (fresh-alike list cap)
+
+  pub trace-chosen : (list : List ℕ) (cap : ℕ) (calls : List Call)
+      → trace (doesBy choice) (freshGateway list cap) calls ≡ trace bookDoes (freshBook list cap) calls
+  trace-chosen list cap calls = same-trace (freshGateway list cap) (freshBook list cap) calls (fresh-alike list cap)
 
 -- one list of calls after another
 pub final-append : {State : Type 0} (does : State → Call → Done State) (s : State) (before later : List Call)
@@ -74,16 +86,25 @@ unfolding final
 final-append does s [] later = refl
 final-append does s (call ∷ before) later = final-append does (does s call .state) before later
 
--- gateway and book after the same calls
+-- by the fast engine: gateway and book after the same calls
+abbrev fast : Gateway → Call → Engine
+fast g call = Engine.Fast
+
 pub alike-end : (list : List ℕ) (cap : ℕ) (calls : List Call) → Alike (gatewayAfter list cap calls) (bookAfter list cap calls)
-alike-end list cap calls = alike-after (freshGateway list cap) (freshBook list cap) calls (fresh-alike list cap)
+alike-end = alike-chosen fast
 
 pub refinement-holds : RefinementHolds
 refinement-holds list cap calls =
-    let fresh = fresh-alike list cap in
-    let end = alike-after (freshGateway list cap) (freshBook list cap) calls fresh in
+    let end = alike-end list cap calls in
+    record { sameAnswers = trace-chosen fast list cap calls; sameRegistry = end .registry; samePending = ∣ end .pending ∣₁ }
+
+-- by any choice of engines: both runs are the book's
+pub engines-agree : EnginesAgreeHolds
+engines-agree choice list cap calls =
+    let one = alike-chosen choice list cap calls in
+    let other = alike-end list cap calls in
     record {
-      sameAnswers = same-trace (freshGateway list cap) (freshBook list cap) calls fresh;
-      sameRegistry = end .registry;
-      samePending = ∣ end .pending ∣₁;
+      sameAnswers = trace-chosen choice list cap calls ∙ sym (trace-chosen fast list cap calls);
+      sameRegistry = one .registry ∙ sym (other .registry);
+      samePending = ∣ List·Permᴰ·trans (one .pending) (Permᴰ·symm (other .pending)) ∣₁;
     }

@@ -9,12 +9,13 @@ use Rattle.wire.specs.Search.{filtered}
 use Rattle.wire.proofs.Numbers.{unless-refused}
 use Rattle.wire.specs.declared.refusal.Refusal.{Refusal}
 use Rattle.keylist.specs.Layout.{Configuration, Result, good, bad}
-use Rattle.exchange.specs.Exchange.{free, exchangeOf}
+use Rattle.exchange.specs.Exchange.{free}
 use Rattle.keys.proofs.Views.{stored-view}
 use Rattle.gateway.specs.declared.Gateway.{Gateway}
+use Rattle.gateway.specs.declared.table.Engine.{Engine}
 use Rattle.gateway.specs.Registry.{tableSize, setup}
 use Rattle.gateway.specs.View.{registryOf, pendingIn}
-use Rattle.gateway.specs.Gateway.{gatewayFrom, nextTicket, gatewayDoes, gatewayAdmitNumber, gatewayRetireNumber}
+use Rattle.gateway.specs.Gateway.{gatewayFrom, pendingWith, nextTicket, gatewayDoes, gatewayAdmitNumber, gatewayRetireNumber}
 use Rattle.gateway.specs.Calls.{Call, admit, retire, onTicket, reporting, number}
 use Rattle.book.specs.OneCall.{lent, RefusalChangesNothing}
 use Rattle.book.proofs.Numbers.{admit-number, retire-number, step-number}
@@ -24,18 +25,18 @@ differs : {a b : ℕ} → a ≡ b → (a ≡ 0 → ⊥) → b ≡ 0 → ⊥
 differs e h z = h (e ∙ z)
 
 -- a refused call
-refused-call : (g : Gateway) (call : Call) → (number (gatewayDoes g call .answer) ≡ 0 → ⊥)
-    → (gatewayDoes g call .state ≡ g) × (gatewayDoes g call .buffer ≡ lent call)
+refused-call : (engine : Engine) (g : Gateway) (call : Call) → (number (gatewayDoes engine g call .answer) ≡ 0 → ⊥)
+    → (gatewayDoes engine g call .state ≡ g) × (gatewayDoes engine g call .buffer ≡ lent call)
 unfolding gatewayDoes number
-refused-call g (admit request info) h =
+refused-call engine g (admit request info) h =
     let refuses = differs (admit-number (gatewayAdmitNumber request info g) (nextTicket g) request) h in
     (sym (unless-refused _ _ g refuses), sym (unless-refused _ _ info refuses))
-refused-call g (retire id) h =
+refused-call engine g (retire id) h =
     (sym (unless-refused _ _ g (differs (retire-number (gatewayRetireNumber id g)) h)), refl)
-refused-call g (onTicket ticket step) h =
-    let refuses = differs (step-number step (exchangeOf ticket (g .table))) h in
+refused-call engine g (onTicket ticket step) h =
+    let refuses = differs (step-number step (pendingWith engine ticket (g .table))) h in
     (sym (unless-refused _ _ g refuses), sym (unless-refused _ _ (step .salt) refuses))
-refused-call g reporting h = absurd (h refl)
+refused-call engine g reporting h = absurd (h refl)
 
 -- free places hold nothing that is pending
 none-pending : (n : ℕ) → pendingIn (replicate n free) ≡ []

@@ -19,14 +19,13 @@ use Rattle.request.specs.Request.{keyIdOf, kemOf, kdfOf, aeadOf, fieldsOf}
 use Rattle.exchange.specs.declared.Exchange.{Exchange}
 use Rattle.exchange.specs.Exchange.{free, isFree, hasTicket, exchangeOf, asked}
 use Rattle.exchange.specs.Steps.{Step, refusal, next, leaves, answer, buffer}
-use Rattle.exchange.specs.Moved.{after}
 use Rattle.exchange.proofs.Moves.{next-ticket, left-free}
 use Rattle.exchange.proofs.Steps.{accepted-pending}
 use Rattle.keys.specs.Keys.{Key, hasId, keyWith, offers, retireRefusal, withKey, withUse, withRetirement}
+use Rattle.gateway.specs.declared.table.Engine.{Engine}
 use Rattle.gateway.specs.Registry.{Registry, admitRefusal}
 use Rattle.gateway.specs.Gateway.{gatewayDoes}
 use Rattle.gateway.specs.Calls.{Call, admit, retire, onTicket, reporting, ofStep, number}
-use Rattle.gateway.proofs.Places.{own-ticket}
 use Rattle.book.specs.Book.{Book, freshBook, replaced, bookStepped, bookAdmitNumber, bookRetireNumber, bookStepNumber, bookDoes}
 use Rattle.book.specs.History.{final, Accepts}
 use Rattle.book.specs.Demand3.{bookAfter}
@@ -115,7 +114,7 @@ refused-by-seven registry full request room h =
 abbrev leftBy : ℕ → Call → Exchange → Exchange
 leftBy ticket (admit request info) e = e
 leftBy ticket (retire id) e = e
-leftBy ticket (onTicket other step) e = pick (eqb ticket other) (after step e) e
+leftBy ticket (onTicket other step) e = pick (eqb ticket other) (unlessRefused (refusal step e) (next step e) e) e
 leftBy ticket reporting e = e
 
 abbrev leftByAll : ℕ → List Call → Exchange → Exchange
@@ -145,7 +144,7 @@ next-found ticket step es accepted =
     replaced-found (λ x. x ≡ free) refl ticket new es closed ∙ sym closed)
     (λ f.
     let its : new .ticket .0 ≡ ticket = next-ticket (leaves (step .kind)) e f ∙ found-has ticket es there in
-    new-found ticket new es f (own-ticket ticket new (λ z. true-or-false (eq-eqb (new .ticket .0) 0 (its ∙ z)) f) its) there)
+    new-found ticket new es f (rw (f, eq-eqb (new .ticket .0) ticket its)) there)
 
 -- by the refusal number of a call on the ticket
 left-either : (ticket n : ℕ) (b c : Book) (x y : Exchange) → (n ≡ 0 → exchangeOf ticket (c .pending) ≡ x) → exchangeOf ticket (b .pending) ≡ y
@@ -203,7 +202,7 @@ module _ (list : List ℕ) (cap : ℕ) (calls : List Call) where
   unfolding gatewayDoes
   told-after more ticket step given =
       ap (λ (e : Exchange). record { call = onTicket ticket step; answer = ofStep (answer step e); buffer = buffer step e })
-      (found-told ticket _ _ (alike-end list cap (calls ++ more))
+      (found-told Engine.Fast ticket _ _ (alike-end list cap (calls ++ more))
       ∙ ap (λ (b : Book). exchangeOf ticket (b .pending)) (final-append bookDoes (freshBook list cap) calls more)
       ∙ left-all ticket (bookAfter list cap calls) more given)
 
@@ -213,7 +212,7 @@ module _ (list : List ℕ) (cap : ℕ) (calls : List Call) where
     unfolding bookDoes
     book-retires =
         sym (retire-number (bookRetireNumber id (bookAfter list cap calls)))
-        ∙ ap number (sym (same-answer _ _ (retire id) (alike-end list cap calls))) ∙ accepted
+        ∙ ap number (sym (same-answer Engine.Fast _ _ (retire id) (alike-end list cap calls))) ∙ accepted
 
     stays-retired : (between : List Call) → isRetired id (bookAfter list cap (calls ++ retire id ∷ between) .registry .keys) ≡ true
     unfolding final bookDoes retireRefusal
@@ -230,7 +229,7 @@ retirement-holds list cap calls id accepted =
       refusesLater = λ between request info names.
           let b = bookAfter list cap (calls ++ retire id ∷ between) in
           rw (
-            same-answer _ _ (admit request info) (alike-end list cap (calls ++ retire id ∷ between)),
+            same-answer Engine.Fast _ _ (admit request info) (alike-end list cap (calls ++ retire id ∷ between)),
             admit-number (bookAdmitNumber request info b) (b .registry .lastTicket + 1) request,
           ) (refused-by-seven (b .registry) (setIsFull b) request (length info) (rw names (stays-retired list cap calls id accepted between)));
       pendingGoOn = λ between ticket step given.

@@ -1,7 +1,7 @@
 -- The table of the gateway and the set of the book: the exchange that has a ticket, a call on it, and an admission.
 -- Assumes nothing.
 use Prim.Native.Nat.{ℕ, zero, suc, _≤_, _<_}
-use mathlib.Core.Bool.{true, false, not}
+use mathlib.Core.Bool.{Bool, true, false, not}
 use mathlib.Core.Path.{_≡_, refl, ap, sym, _∙_}
 use mathlib.Core.List.{List, [], _∷_, _++_, List·Permᴰ, List·Permᴰ·nil, List·Permᴰ·cons, List·Permᴰ·swap, List·Permᴰ·trans, Permᴰ·append-left}
 use native.Mathlib.Nat.{le-refl, not-suc-le-zero, le-of-suc-le-suc}
@@ -21,6 +21,24 @@ use Rattle.book.proofs.Passing.{passing, passing-append, passing-permut
 -- how many exchanges have the ticket
 abbrev pub holding : ℕ → List Exchange → ℕ
 holding ticket es = passing (hasTicket ticket) es
+
+-- where at most one element passes, whatever passes is the first that does
+some-passes : {A : Type 0} (default : A) (test : A → Bool) (xs : List A) (k : ℕ) → k < length xs → test (getD xs k default) ≡ true → 1 ≤ passing test xs
+unfolding passing
+some-passes default test [] k h here = absurd (not-suc-le-zero h)
+some-passes default test (x ∷ xs) zero h here = rw here (omega arith)
+some-passes default test (x ∷ xs) (suc k) h here =
+    let rest = some-passes default test xs k (le-of-suc-le-suc h) here in either (test x) (λ t. rw t (omega arith)) (λ t. rw t rest)
+
+pub only-place : {A : Type 0} (default : A) (test : A → Bool) (xs : List A) (k : ℕ) → k < length xs → passing test xs ≤ 1
+    → test (getD xs k default) ≡ true → firstPlace test xs ≡ k
+unfolding firstPlace passing
+only-place default test [] k h once here = absurd (not-suc-le-zero h)
+only-place default test (x ∷ xs) zero h once here = rw here
+only-place default test (x ∷ xs) (suc k) h once here =
+    either (test x)
+    (λ t. absurd (let z = rw t at once in let s = some-passes default test xs k (le-of-suc-le-suc h) here in omega arith))
+    (λ t. rw t (ap suc (only-place default test xs k (le-of-suc-le-suc h) (rw t at once) here)))
 
 -- one exchange has at most its own ticket
 pub holding-one : (ticket : ℕ) (e : Exchange) → holding ticket (e ∷ []) ≤ 1

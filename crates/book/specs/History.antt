@@ -6,6 +6,7 @@ use mathlib.Core.List.{List, [], _∷_}
 use lib.Dec.{eqb}
 use Rattle.gateway.specs.declared.Gateway.{Gateway}
 use Rattle.gateway.specs.declared.AdmitAnswer.{AdmitAnswer}
+use Rattle.gateway.specs.declared.table.Engine.{Engine}
 use Rattle.gateway.specs.Gateway.{freshGateway, gatewayDoes}
 use Rattle.gateway.specs.Calls.{Call, Answer, Done, number, ofAdmit, ofRetire, ofStep, ofReport}
 
@@ -27,16 +28,16 @@ module _ {State : Type 0} (does : State → Call → Done State) where
   final s [] = s
   final s (call ∷ calls) = final (does s call .state) calls
 
--- from the gateway that setup handed back, after a refused setup too
+-- from the gateway that setup handed back, after a refused setup too; by the fast engine, which is the one that hosts use
 abbrev pub gatewayTrace : List ℕ → ℕ → List Call → List Event
-gatewayTrace list cap calls = trace gatewayDoes (freshGateway list cap) calls
+gatewayTrace list cap calls = trace (gatewayDoes Engine.Fast) (freshGateway list cap) calls
 
 abbrev pub gatewayAfter : List ℕ → ℕ → List Call → Gateway
-gatewayAfter list cap calls = final gatewayDoes (freshGateway list cap) calls
+gatewayAfter list cap calls = final (gatewayDoes Engine.Fast) (freshGateway list cap) calls
 
 -- and from what they reached: the answer to one more call, and that it is accepted
 abbrev pub answerAfter : List ℕ → ℕ → List Call → Call → Answer
-answerAfter list cap calls call = gatewayDoes (gatewayAfter list cap calls) call .answer
+answerAfter list cap calls call = gatewayDoes Engine.Fast (gatewayAfter list cap calls) call .answer
 
 abbrev pub Accepts : List ℕ → ℕ → List Call → Call → Type 0
 Accepts list cap calls call = number (answerAfter list cap calls call) ≡ 0

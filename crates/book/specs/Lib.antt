@@ -6,6 +6,7 @@ pub mod Counts
 pub mod Lifecycle
 pub mod Retirement
 pub mod Demand3
+pub mod Engines
 pub mod Storage
 pub mod Agreement
 pub mod Edges

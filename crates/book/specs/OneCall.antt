@@ -13,12 +13,13 @@ use Rattle.keylist.specs.Layout.{bad}
 use Rattle.algorithms.specs.Sizes.{knownKem, knownKdf, knownAead, shortestRequest}
 use Rattle.exchange.specs.declared.Exchange.{Exchange}
 use Rattle.request.specs.Request.{keyIdOf, kemOf, kdfOf, aeadOf}
-use Rattle.exchange.specs.Exchange.{isFree, exchangeOf}
+use Rattle.exchange.specs.Exchange.{isFree}
 use Rattle.exchange.specs.Steps.{refusal, fails}
 use Rattle.keys.specs.Keys.{Key}
 use Rattle.gateway.specs.declared.Gateway.{Gateway}
+use Rattle.gateway.specs.declared.table.Engine.{Engine}
 use Rattle.gateway.specs.Registry.{setup, admitRefusal, statusOf}
-use Rattle.gateway.specs.Gateway.{freshGateway, gatewayDoes}
+use Rattle.gateway.specs.Gateway.{pendingWith, freshGateway, gatewayDoes}
 use Rattle.gateway.specs.View.{registryOf, pendingIn, isFull}
 use Rattle.gateway.specs.Calls.{Call, admit, retire, onTicket, reporting, number, unprotectedStatus}
 use Rattle.book.specs.History.{gatewayAfter, Accepts}
@@ -30,11 +31,11 @@ lent (retire id) = []
 lent (onTicket ticket step) = step .salt
 lent reporting = []
 
--- "A refusal changes no gateway and no byte of a lent buffer", for every gateway and every call. Setup makes a gateway: "A refused setup
+-- "A refusal changes no gateway and no byte of a lent buffer", for every gateway and every call, by either engine. Setup makes a gateway: "A refused setup
 -- hands back a gateway without keys, cap 1, last ticket 0"
 pub record RefusalChangesNothing : Type 0 where
-  pub ofCall : (g : Gateway) (call : Call) → (number (gatewayDoes g call .answer) ≡ 0 → ⊥)
-      → (gatewayDoes g call .state ≡ g) × (gatewayDoes g call .buffer ≡ lent call)
+  pub ofCall : (engine : Engine) (g : Gateway) (call : Call) → (number (gatewayDoes engine g call .answer) ≡ 0 → ⊥)
+      → (gatewayDoes engine g call .state ≡ g) × (gatewayDoes engine g call .buffer ≡ lent call)
   pub ofSetup : (list : List ℕ) (cap : ℕ) (r : Refusal) → setup list cap ≡ bad r
       → (registryOf (freshGateway list cap) ≡ record { cap = 1; lastTicket = 0; keys = [] }) × (pendingIn (freshGateway list cap .table) ≡ [])
 
@@ -72,13 +73,14 @@ AdmissionExactly =
 
 -- "Errors found before or at opening go out unprotected, later ones only sealed"; "no other call's refusal sends anything": the status that
 -- goes out unprotected, 0 where nothing does. It is that of a refused admit, and 422 of a failed opening.
-abbrev pub unprotectedFor : Gateway → Call → ℕ
-unprotectedFor g (admit request info) =
+abbrev pub unprotectedFor : Engine → Gateway → Call → ℕ
+unprotectedFor engine g (admit request info) =
     let n = admitRefusal (registryOf g) (isFull (g .table)) request (length info) in unlessRefused n 0 (statusOf n)
-unprotectedFor g (retire id) = 0
-unprotectedFor g (onTicket ticket step) = unlessRefused (refusal step (exchangeOf ticket (g .table))) (pick (fails (step .kind)) 422 0) 0
-unprotectedFor g reporting = 0
+unprotectedFor engine g (retire id) = 0
+unprotectedFor engine g (onTicket ticket step) = unlessRefused (refusal step (pendingWith engine ticket (g .table))) (pick (fails (step .kind)) 422 0) 0
+unprotectedFor engine g reporting = 0
 
--- for every gateway and every call
+-- for every gateway and every call, by either engine
 abbrev pub UnprotectedExactly : Type 0
-UnprotectedExactly = (g : Gateway) (call : Call) → unprotectedStatus (gatewayDoes g call .answer) ≡ unprotectedFor g call
+UnprotectedExactly =
+    (engine : Engine) (g : Gateway) (call : Call) → unprotectedStatus (gatewayDoes engine g call .answer) ≡ unprotectedFor engine g call

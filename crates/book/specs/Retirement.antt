@@ -6,6 +6,7 @@ use mathlib.Core.List.{List, [], _∷_, _++_}
 use Rattle.wire.specs.Search.{among}
 use Rattle.request.specs.Request.{keyIdOf}
 use Rattle.exchange.specs.Steps.{Step}
+use Rattle.gateway.specs.declared.table.Engine.{Engine}
 use Rattle.gateway.specs.View.{registryOf}
 use Rattle.gateway.specs.Gateway.{gatewayDoes}
 use Rattle.gateway.specs.Calls.{Call, admit, retire, onTicket, number}
@@ -13,7 +14,7 @@ use Rattle.book.specs.History.{Event, event, gatewayAfter, answerAfter, 
 
 -- what one more call gives, from what the calls reached
 abbrev pub eventAfter : List ℕ → ℕ → List Call → Call → Event
-eventAfter list cap calls call = event call (gatewayDoes (gatewayAfter list cap calls) call)
+eventAfter list cap calls call = event call (gatewayDoes Engine.Fast (gatewayAfter list cap calls) call)
 
 -- 01, "Retire": "later admissions refuse it. Pending exchanges go on."
 pub record Retirement (list : List ℕ) (cap : ℕ) (calls : List Call) (id : ℕ) : Type 0 where

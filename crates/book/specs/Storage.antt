@@ -3,6 +3,7 @@ use Prim.Native.Nat.{ℕ, _+_, _<_}
 use mathlib.Core.Bool.{true}
 use mathlib.Core.Path.{_≡_}
 use mathlib.Core.List.{List, [], _∷_, _++_, map}
+use lib.Dec.{eqb}
 use lib.ListN.{length, getD, take}
 use Rattle.exchange.specs.declared.Exchange.{Exchange}
 use Rattle.request.specs.Request.{fieldsOf}
@@ -12,7 +13,9 @@ use Rattle.keys.specs.Keys.{Key}
 use Rattle.keys.specs.declared.KeyState.{KeyState}
 use Rattle.keys.specs.Stored.{usedState}
 use Rattle.gateway.specs.declared.Gateway.{Gateway}
-use Rattle.gateway.specs.View.{registryOf}
+use Rattle.gateway.specs.declared.table.Engine.{Engine}
+use Rattle.gateway.specs.Registry.{tableSize}
+use Rattle.gateway.specs.View.{registryOf, pendingIn, isFull}
 use Rattle.gateway.specs.Gateway.{nextTicket, gatewayDoes, placeOfTicket}
 use Rattle.gateway.specs.Calls.{Call, admit, onTicket, number}
 use Rattle.book.specs.History.{gatewayAfter, Accepts}
@@ -25,23 +28,42 @@ pub record NewPlace (before after : List Exchange) (new : Exchange) : Type 0 whe
   pub holdsNew : getD after place free ≡ new
   pub others : (other : ℕ) → (other ≡ place → ⊥) → getD after other free ≡ getD before other free
 
--- for every accepted admit
+-- for every accepted admit, by either engine
 abbrev pub PlaceIsFree : Type 0
 PlaceIsFree =
-    (g : Gateway) (request info : List ℕ) → number (gatewayDoes g (admit request info) .answer) ≡ 0
-    → NewPlace (g .table) (gatewayDoes g (admit request info) .state .table) (asked (nextTicket g) (fieldsOf request))
+    (engine : Engine) (g : Gateway) (request info : List ℕ) → number (gatewayDoes engine g (admit request info) .answer) ≡ 0
+    → NewPlace (g .table) (gatewayDoes engine g (admit request info) .state .table) (asked (nextTicket g) (fieldsOf request))
+
+-- where the fast engine finds a ticket after the calls
+abbrev pub placeBefore : List ℕ → ℕ → List Call → ℕ → ℕ
+placeBefore list cap calls ticket = placeOfTicket Engine.Fast ticket (gatewayAfter list cap calls .table)
 
 -- "a closed ticket gives 11 and its place is free": a ticket on which a call is accepted has a place, which the call leaves free where it closes
 pub record ClosedPlace (list : List ℕ) (cap : ℕ) (calls : List Call) (ticket : ℕ) (step : Step) : Type 0 where
-  pub inside : placeOfTicket ticket (gatewayAfter list cap calls .table) < length (gatewayAfter list cap calls .table)
+  pub inside : placeBefore list cap calls ticket < length (gatewayAfter list cap calls .table)
   pub leftFree : closes (step .kind) ≡ true
-      → getD (gatewayAfter list cap (calls ++ onTicket ticket step ∷ []) .table) (placeOfTicket ticket (gatewayAfter list cap calls .table)) free
-      ≡ free
+      → getD (gatewayAfter list cap (calls ++ onTicket ticket step ∷ []) .table) (placeBefore list cap calls ticket) free ≡ free
 
 abbrev pub ClosedPlaceIsFree : Type 0
 ClosedPlaceIsFree =
     (list : List ℕ) (cap : ℕ) (calls : List Call) (ticket : ℕ) (step : Step) → Accepts list cap calls (onTicket ticket step)
     → ClosedPlace list cap calls ticket step
+
+-- A10: 128 pending is full whatever the tickets are, and fewer are not
+abbrev pub FullExactly : Type 0
+FullExactly =
+    (list : List ℕ) (cap : ℕ) (calls : List Call) → let table = gatewayAfter list cap calls .table in
+    isFull table ≡ eqb (length (pendingIn table)) tableSize
+
+-- and a closed place is used again, also where homes are taken: in a table that was full the next exchange stands where the closed one stood
+abbrev pub ClosedPlaceIsUsedAgain : Type 0
+ClosedPlaceIsUsedAgain =
+    (list : List ℕ) (cap : ℕ) (calls : List Call) (ticket : ℕ) (step : Step) (request info : List ℕ)
+    → isFull (gatewayAfter list cap calls .table) ≡ true → closes (step .kind) ≡ true → Accepts list cap calls (onTicket ticket step)
+    → let closed = calls ++ onTicket ticket step ∷ [] in
+    Accepts list cap closed (admit request info)
+    → getD (gatewayAfter list cap (closed ++ admit request info ∷ []) .table) (placeBefore list cap calls ticket) free
+    ≡ asked (nextTicket (gatewayAfter list cap closed)) (fieldsOf request)
 
 -- no ticket and no count is the largest of its width, so that the next one is one more
 pub record OneMore (g : Gateway) : Type 0 where

@@ -138,3 +138,13 @@ pub pending-more : (e : Exchange) (es : List Exchange)
     → length (pendingIn (e ∷ es)) ≡ length (pendingIn (e ∷ [])) + length (pendingIn es)
 unfolding filtered
 pending-more e es = either (isFree e) (λ f. rw f (sym (zero-add (length (pendingIn es))))) (λ f. rw f (omega arith))
+
+-- where at most one exchange passes, every engine finds it at the same place
+pub only-found : (engine : Engine) (ticket : ℕ) (passes : Exchange → Bool) (table : List Exchange)
+    → ((place : ℕ) → place < length table → passes (getD table place free) ≡ true → firstPlace passes table ≡ place)
+    → placeBy engine ticket passes table ≡ firstPlace passes table
+unfolding placeBy
+only-found Engine.Plain ticket passes table only = refl
+only-found Engine.Fast ticket passes table only =
+    either (at-home ticket passes table)
+    (λ here. rw here (sym (only (home ticket) (home-inside ticket passes table here) (home-passes ticket passes table here)))) (λ none. rw none)
