@@ -17,6 +17,7 @@ pub mod Admission
 -- tickets over every history:
 pub mod Tickets
 pub mod Lifecycle
+pub mod Storing
 pub mod Retiring
 -- counts and tickets:
 pub mod Counting

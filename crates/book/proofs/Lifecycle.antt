@@ -76,7 +76,7 @@ place-freed (e ∷ es) zero = refl
 place-freed (e ∷ es) (suc place) = place-freed es place
 
 -- the number of an answer to a call on a ticket
-step-told : (g : Gateway) (ticket : ℕ) (step : Step)
+pub step-told : (g : Gateway) (ticket : ℕ) (step : Step)
     → number (gatewayDoes Engine.Fast g (onTicket ticket step) .answer) ≡ refusal step (pendingWith Engine.Fast ticket (g .table))
 unfolding gatewayDoes
 step-told g ticket step = step-number step (pendingWith Engine.Fast ticket (g .table))

@@ -169,7 +169,7 @@ admitted-in-table new (e ∷ es) (suc place) n inside f =
     either (isFree e) (λ t. rw t rest) (λ t. rw t (List·Permᴰ·cons refl rest))
 
 -- no more are pending than there are places
-pending-length : (table : List Exchange) → length (pendingIn table) ≤ length table
+pub pending-length : (table : List Exchange) → length (pendingIn table) ≤ length table
 unfolding filtered
 pending-length [] = omega arith
 pending-length (e ∷ es) =
