@@ -4,6 +4,7 @@ use mathlib.Core.List.{List}
 use lib.ListN.{replicate}
 use Rattle.exchange.specs.Steps.{step}
 use Rattle.gateway.specs.declared.Gateway.{Gateway}
+use Rattle.gateway.specs.declared.table.Engine.{Engine}
 use Rattle.gateway.specs.Gateway.{freshGateway, gatewayDoes}
 use Rattle.gateway.specs.Calls.{admit, retire, onTicket, reporting}
 use Rattle.sealwax.specs.declared.gateway_lines.Call.{Call}
@@ -12,10 +13,10 @@ use Rattle.sealwax.specs.declared.gateway_lines.Call.{Call}
 abbrev pub filled : ℕ → List ℕ
 filled room = replicate (min room 256) 0xa5
 
--- a line's call, with the bytes of its words: setup's list, admit's request, respond's enc and nonce
-abbrev pub gatewayAfterLine : Gateway → Call → List ℕ → List ℕ → Gateway
-gatewayAfterLine g (Call.Setup cap) list nonce = freshGateway list cap
-gatewayAfterLine g (Call.Admit room) request nonce = gatewayDoes g (admit request (filled room)) .state
-gatewayAfterLine g (Call.Step ticket asks room) enc nonce = gatewayDoes g (onTicket ticket (step asks enc nonce (filled room))) .state
-gatewayAfterLine g (Call.Retire id) bytes nonce = gatewayDoes g (retire id) .state
-gatewayAfterLine g Call.Report bytes nonce = gatewayDoes g reporting .state
+-- a line's call, by an engine, with the bytes of its words: setup's list, admit's request, respond's enc and nonce
+abbrev pub gatewayAfterLine : Engine → Gateway → Call → List ℕ → List ℕ → Gateway
+gatewayAfterLine engine g (Call.Setup cap) list nonce = freshGateway list cap
+gatewayAfterLine engine g (Call.Admit room) request nonce = gatewayDoes engine g (admit request (filled room)) .state
+gatewayAfterLine engine g (Call.Step ticket asks room) enc nonce = gatewayDoes engine g (onTicket ticket (step asks enc nonce (filled room))) .state
+gatewayAfterLine engine g (Call.Retire id) bytes nonce = gatewayDoes engine g (retire id) .state
+gatewayAfterLine engine g Call.Report bytes nonce = gatewayDoes engine g reporting .state

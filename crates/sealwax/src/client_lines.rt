@@ -1,4 +1,4 @@
-// The lines that need no gateway: calls on key lists and on the client's side.
+// The lines that need no gateway: calls on key lists and on the client's side, and the choice of the engine.
 use crate::lines;
 use crate::lines::Line;
 use crate::output::OutputBuffer;
@@ -52,6 +52,7 @@ pub(crate) fn answer(
     let name = line.name;
     match name {
         lines::NOTHING => at,
+        lines::ENGINE => put_engine(line, out, at),
         lines::CHECK => put_check(line, bytes, out, at),
         lines::KEY => put_key(line, bytes, out, at),
         lines::CHOOSE => put_choose(line, bytes, out, at),
@@ -64,6 +65,17 @@ pub(crate) fn answer(
 
 pub(crate) fn put_bad_line(number: u64, out: &mut OutputBuffer, at: usize) -> usize {
     put_form(out, at, b"bad line %", &[number])
+}
+
+// The engine by which the calls after the line go.
+fn put_engine(line: Line, out: &mut OutputBuffer, at: usize) -> usize {
+    let is_plain = line.first == lines::PLAIN;
+    put_form(
+        out,
+        at,
+        b"engine ?plain?fast?",
+        &[is_plain as u64, !is_plain as u64, 1],
+    )
 }
 
 fn put_check(line: Line, bytes: &[u8], out: &mut OutputBuffer, at: usize) -> usize {

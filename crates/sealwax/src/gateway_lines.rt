@@ -1,6 +1,7 @@
 // The lines that call the gateway.
 ghost use mathlib.Core.Path.{_≡_};
 ghost use Rattle.exchange.specs.Steps.{step};
+ghost use Rattle.gateway.specs.declared.table.Engine.{Engine};
 ghost use Rattle.gateway.specs.Gateway.{freshGateway, gatewayDoes};
 ghost use Rattle.gateway.specs.Calls.{admit, retire, onTicket};
 ghost use Rattle.sealwax.specs.Calls.{filled, gatewayAfterLine};
@@ -17,8 +18,10 @@ use crate::text::put_short;
 use exchange::Move;
 use gateway::Gateway;
 use gateway::change;
+use gateway::table::Engine;
 use keylist::check::MOST_CONFIGURATIONS;
 use keys::KeyReport;
+use results::by_value;
 use results::gateway_calls;
 use results::gateway_calls::AdmitResult;
 use results::outcome::NumberResult;
@@ -71,27 +74,51 @@ fn opening(result: u64, n: u64) -> Move {
     }
 }
 
+// The engine after a line, by the line's first number.
+pub(crate) fn engine_after(engine: u64, name: u64, first: u64) -> u64 {
+    if name == lines::ENGINE { first } else { engine }
+}
+
+pub(crate) fn engine_of(number: u64) -> Engine {
+    if number == lines::PLAIN {
+        Engine::Plain
+    } else {
+        Engine::Fast
+    }
+}
+
 // The gateway after a line, and the place behind the answer.
 pub(crate) struct Answered {
     pub gateway: Gateway,
     pub end: usize,
 }
 
-// Makes a call and puts its answer.
+// Makes a call by an engine, and puts its answer.
 pub(crate) fn answer(
     gateway: Gateway,
+    engine: Engine,
     call: Call,
     bytes: &[u8],
     nonce: &[u8],
     out: &mut OutputBuffer,
     at: usize,
 ) -> Answered
-    ensures { λ r. ⌜ r .gateway ≡ gatewayAfterLine gateway call (now (bytes .entry)) (now (nonce .entry)) ⌝ }
+    ensures { λ r. ⌜ r .gateway ≡ gatewayAfterLine engine gateway call (now (bytes .entry)) (now (nonce .entry)) ⌝ }
 {
     match call {
         Call::Setup(cap) => setup(bytes, cap, out, at),
-        Call::Admit(room) => admit(gateway, bytes, room, out, at),
-        Call::Step(ticket, asks, room) => step(gateway, ticket, asks, bytes, nonce, room, out, at),
+        Call::Admit(room) => admit(gateway, engine, bytes, room, out, at),
+        Call::Step(ticket, asks, room) => step(
+            gateway,
+            engine,
+            ticket,
+            asks,
+            bytes,
+            nonce,
+            room,
+            out,
+            at,
+        ),
         Call::Retire(key_id) => retire(gateway, key_id, out, at),
         Call::Report => Answered {
             gateway,
@@ -112,13 +139,20 @@ fn setup(list: &[u8], cap: u64, out: &mut OutputBuffer, at: usize) -> Answered
     }
 }
 
-fn admit(gateway: Gateway, request: &[u8], room: u64, out: &mut OutputBuffer, at: usize) -> Answered
-    ensures { λ r. ⌜ r .gateway ≡ gatewayDoes gateway (admit (now (request .entry)) (filled room)) .state ⌝ }
+fn admit(
+    gateway: Gateway,
+    engine: Engine,
+    request: &[u8],
+    room: u64,
+    out: &mut OutputBuffer,
+    at: usize,
+) -> Answered
+    ensures { λ r. ⌜ r .gateway ≡ gatewayDoes engine gateway (admit (now (request .entry)) (filled room)) .state ⌝ }
 {
     let front = 0;
     let room = room_of(room, MOST_ROOM);
     let mut info = [FILL; MOST_ROOM];
-    let done = gateway_calls::admit(gateway, request, &mut info[front..room]);
+    let done = by_value::admit(gateway, engine, request, &mut info[front..room]);
     let end = put_admitted(out, at, done.result);
     let change = done.change;
     Answered {
@@ -148,6 +182,7 @@ fn put_admitted(out: &mut OutputBuffer, at: usize, result: AdmitResult) -> usize
 
 fn step(
     gateway: Gateway,
+    engine: Engine,
     ticket: u64,
     asks: Move,
     enc: &[u8],
@@ -156,13 +191,21 @@ fn step(
     out: &mut OutputBuffer,
     at: usize,
 ) -> Answered
-    ensures { λ r. ⌜ r .gateway ≡ gatewayDoes gateway
+    ensures { λ r. ⌜ r .gateway ≡ gatewayDoes engine gateway
         (onTicket ticket (step asks (now (enc .entry)) (now (nonce .entry)) (filled room))) .state ⌝ }
 {
     let front = 0;
     let room = room_of(room, MOST_ROOM);
     let mut salt = [FILL; MOST_ROOM];
-    let done = gateway_calls::step(gateway, ticket, asks, enc, nonce, &mut salt[front..room]);
+    let done = by_value::step(
+        gateway,
+        engine,
+        ticket,
+        asks,
+        enc,
+        nonce,
+        &mut salt[front..room],
+    );
     let end = put_step(out, at, asks, done.result, &salt, room);
     let change = done.change;
     Answered {
@@ -197,9 +240,9 @@ fn put_sent(out: &mut OutputBuffer, at: usize, result: NumberResult, form: &[u8]
 }
 
 fn retire(gateway: Gateway, key_id: u8, out: &mut OutputBuffer, at: usize) -> Answered
-    ensures { λ r. ⌜ r .gateway ≡ gatewayDoes gateway (retire «key_id») .state ⌝ }
+    ensures { λ r. ⌜ ((engine : Engine) → r .gateway ≡ gatewayDoes engine gateway (retire «key_id») .state) ⌝ }
 {
-    let done = gateway_calls::retire(gateway, key_id);
+    let done = by_value::retire(gateway, key_id);
     let end = put_short(out, at, done.result, b"retired", 0, 0);
     let change = done.change;
     Answered {
@@ -209,7 +252,7 @@ fn retire(gateway: Gateway, key_id: u8, out: &mut OutputBuffer, at: usize) -> An
 }
 
 fn report(gateway: Gateway, out: &mut OutputBuffer, at: usize) -> usize {
-    let result = gateway_calls::report(gateway);
+    let result = by_value::report(gateway);
     let keys = result.keys;
     let end = put_form(
         out,

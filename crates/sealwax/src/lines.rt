@@ -22,6 +22,8 @@ pub(crate) const RETIRE: u64 = 0x726574697265;
 
 pub(crate) const REPORT: u64 = 0x7265706f7274;
 
+pub(crate) const ENGINE: u64 = 0x656e67696e65;
+
 pub(crate) const CHECK: u64 = 0x636865636b;
 
 pub(crate) const KEY: u64 = 0x6b6579;
@@ -56,6 +58,9 @@ const RESULT: u32 = 5;
 // A KEM, KDF or AEAD number, in four hexadecimal digits.
 pub(crate) const CODE: u32 = 6;
 
+// An engine, as `fast` or `plain`.
+const ENGINE_NAME: u32 = 7;
+
 // Bytes: a request, a response, a list, an enc or a nonce; a public key; numbers of two bytes each; a key's pairs of these.
 const BYTES: u32 = 8;
 
@@ -74,6 +79,7 @@ fn kinds_of(name: u64) -> u32 {
         RESPOND => 0x131881,
         ABANDON => 0x11,
         RETIRE => 0x12,
+        ENGINE => 0x17,
         CHECK => 0x18,
         KEY => 0x128,
         CHOOSE => 0x1aa8,
@@ -107,7 +113,8 @@ fn take(line: &mut [u8], at: usize, kind: u32) -> Word {
     let most = most_of(kind);
     match kind {
         NUMBER | ID | ROOM | LIST_ROOM => take_number(line, at, most),
-        RESULT => take_result(line, at),
+        RESULT => take_one_of(line, at, OK, FAILED),
+        ENGINE_NAME => take_one_of(line, at, FAST, PLAIN),
         _ => take_bytes(line, at, kind, most),
     }
 }
@@ -117,16 +124,21 @@ pub(crate) const OK: u64 = 0x6f6b;
 
 const FAILED: u64 = 0x6661696c6564;
 
-fn take_result(line: &[u8], at: usize) -> Word {
+// The engines.
+pub(crate) const FAST: u64 = 0x66617374;
+
+pub(crate) const PLAIN: u64 = 0x706c61696e;
+
+// Takes one of two texts.
+fn take_one_of(line: &[u8], at: usize, one: u64, other: u64) -> Word {
     let mut word = take_text(line, at);
-    let value = word.value;
-    match value {
-        OK | FAILED => word,
-        _ => {
-            word.next = NO_WORD;
-            word
-        }
+    if word.value == one {
+        return word;
     }
+    if word.value != other {
+        word.next = NO_WORD;
+    }
+    word
 }
 
 // The name of a call, and what its words say: the numbers in order, and where the bytes lie in order. The next word starts at `next`.

@@ -10,6 +10,8 @@ mod words;
 mod write_lines;
 
 use crate::gateway_lines::call_of;
+use crate::gateway_lines::engine_after;
+use crate::gateway_lines::engine_of;
 use crate::gateway_lines::is_of_gateway;
 use crate::input::INPUT_SIZE;
 use crate::input::Input;
@@ -38,6 +40,7 @@ fn main() {
 // so it counts its turns down from a number that no run uses up.
 fn replay(bytes: &mut InputBuffer, out: &mut OutputBuffer) {
     let mut gateway = first_gateway();
+    let mut engine = lines::FAST;
     let mut input = Input::new();
     let mut at = 0;
     let mut turns = u64::MAX;
@@ -54,10 +57,12 @@ fn replay(bytes: &mut InputBuffer, out: &mut OutputBuffer) {
         }
         let line = read_line(input.start, end, bytes);
         input = input.passed(end);
+        engine = engine_after(engine, line.name, line.first);
         if is_of_gateway(line.name) {
             let shared = &bytes[..];
             let answered = gateway_lines::answer(
                 gateway,
+                engine_of(engine),
                 call_of(line.name, line.first, line.second, line.third),
                 part_of(shared, line.start, line.end),
                 part_of(shared, line.second_start, line.second_end),

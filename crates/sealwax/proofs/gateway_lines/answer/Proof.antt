@@ -16,7 +16,7 @@ returns-3 : tie.Need-returns-3
 returns-3 c = rw (c .before .before .before .call3 .given .1) (c .step .ensures)
 
 returns-4 : tie.Need-returns-4
-returns-4 c = rw (c .before .before .before .call4 .given .1) (c .retire .ensures)
+returns-4 c = rw (c .before .before .before .call4 .given .1) (c .retire .ensures _)
 
 returns-5 : tie.Need-returns-5
 unfolding gatewayDoes

@@ -6,7 +6,7 @@ use Rattle.sealwax.proofs.gateway_lines.retire.Statement.{statement}
 use Rattle.sealwax.proofs.gateway_lines.retire.Tie as tie
 
 returns : tie.Need-returns
-returns c = c .put .ensures ∙ c .before .before .before .before .before .retire .ensures .1 .0
+returns c = λ engine. c .put .ensures ∙ c .before .before .before .before .before .retire .ensures engine .1 .0
 
 pub retire-spec : {M : Type 1} → statement M
 retire-spec = tie.close (tie.spec (λ c κs. search needs) (λ c. search needs) (λ c κs. search needs) (λ c κs. search needs) returns)
