@@ -2,6 +2,7 @@
 
 use crate::client::Chosen;
 use crate::keeper::{Admitted, KeyReport, Opening, Report};
+use crate::pending::Engine;
 use crate::refusal::{is_key_problem, status, Refusal};
 
 /// Bytes in lower-case hex, `-` for none.
@@ -101,4 +102,8 @@ pub fn chosen(chosen: &Chosen) -> String {
         chosen.public_key.start,
         chosen.public_key.end
     )
+}
+
+pub fn engine(engine: Engine) -> String {
+    format!("engine {}", engine.name())
 }

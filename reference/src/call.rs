@@ -2,6 +2,7 @@
 
 use crate::algorithms::Pair;
 use crate::list_writer::Fields;
+use crate::pending::Engine;
 
 /// A longer line is no call (its newline is not counted).
 pub const LONGEST_LINE: usize = 140_100;
@@ -83,6 +84,8 @@ pub enum Line {
     PassedOver,
     /// "A line that is no call".
     Bad,
+    /// The calls after it go by that engine. It is no call of the gateway.
+    Engine(Engine),
     Call(Call),
 }
 
@@ -94,10 +97,18 @@ pub fn read_line(line: &[u8]) -> Line {
     if line.len() > LONGEST_LINE {
         return Line::Bad;
     }
+    if let Some(engine) = read_engine(line) {
+        return Line::Engine(engine);
+    }
     match read_call(line) {
         Some(call) => Line::Call(call),
         None => Line::Bad,
     }
+}
+
+/// The engine that a line names, where it is such a line.
+pub fn read_engine(line: &[u8]) -> Option<Engine> {
+    line.strip_prefix(b"engine ").and_then(Engine::read)
 }
 
 fn read_call(line: &[u8]) -> Option<Call> {
@@ -317,7 +328,7 @@ mod tests {
 
     fn is_call(line: &str) -> bool {
         match read_line(line.as_bytes()) {
-            Line::Call(_) => true,
+            Line::Call(_) | Line::Engine(_) => true,
             Line::Bad => false,
             Line::PassedOver => panic!("passed over: {line}"),
         }
@@ -349,6 +360,8 @@ mod tests {
             "abandon 18446744073709551615",
             "abandon 000000000000000000000000000000001",
             "retire 0255",
+            "engine plain",
+            "engine fast",
         ];
         for call in calls {
             assert!(is_call(call), "{call}");
@@ -408,6 +421,29 @@ mod tests {
         let bad = ["", " 0001", " 0001 257", " 0001 -", " 001 22", " 000A 22"];
         for words in bad {
             assert!(!is_call(&format!("exporter{words}")), "{words}");
+        }
+    }
+
+    #[test]
+    fn lines_of_engine() {
+        assert_eq!(read_line(b"engine plain"), Line::Engine(Engine::Plain));
+        assert_eq!(read_line(b"engine fast"), Line::Engine(Engine::Fast));
+        let bad = [
+            "engine",
+            "engine -",
+            "engine 0",
+            "engine plai",
+            "engine plainer",
+            "engine Fast",
+            "engine fast plain",
+            "engineplain",
+            "engines fast",
+            "Engine fast",
+            "plain",
+            "fast engine",
+        ];
+        for line in bad {
+            assert_eq!(read_line(line.as_bytes()), Line::Bad, "{line}");
         }
     }
 

@@ -1,8 +1,10 @@
 //! Another program's answers held against the reference's, and demand 3 on each list.
 
+use crate::answer;
 use crate::call::{read_line, Call, Line, LONGEST_LINE};
 use crate::lines::Lines;
 use crate::moved::{check, is_gateway_call, Answered};
+use crate::pending::Engine;
 use crate::replay::Replay;
 use crate::table::Table;
 use std::io::{self, BufRead};
@@ -88,6 +90,11 @@ impl Comparison {
                 return Ok(Err(difference));
             }
             self.list.setup = Some((*cap, list.clone()));
+            // A setup leaves the engine, and a program begins with the fast one.
+            if self.replay.engine() == Engine::Plain {
+                let engine = answer::engine(Engine::Plain);
+                self.list.lines.push(engine.into_bytes());
+            }
         }
         self.list.lines.push(line.to_vec());
         let reference = match self.replay.answer(&read) {
@@ -113,7 +120,8 @@ impl Comparison {
     /// Checks demand 3 on the list and starts the next.
     fn end_list(&mut self) -> Result<(), Difference> {
         let list = std::mem::take(&mut self.list);
-        if list.lines.is_empty() {
+        // What stands before the first setup is a list where it has a call of the gateway.
+        if list.setup.is_none() && list.answered.is_empty() {
             return Ok(());
         }
         self.summary.lists += 1;
@@ -253,6 +261,35 @@ mod tests {
         assert_eq!(difference.lines, lines);
         let expected = "reference: refused 11\nother: abandoned";
         assert!(difference.message.ends_with(expected));
+    }
+
+    #[test]
+    fn the_prefix_starts_with_its_engine() {
+        let calls = b"engine plain\nsetup 1 -\nengine fast\nengine plain\nsetup 0 -\nabandon 1\n";
+        let list = "refused 15 at 0";
+        let (plain, fast) = ("engine plain", "engine fast");
+        let answers = [plain, list, fast, plain, list, "abandoned"].map(str::to_string);
+        let difference = compare_with(calls, &answers).err().unwrap();
+        let lines: Vec<&[u8]> = vec![b"engine plain", b"setup 0 -", b"abandon 1"];
+        assert_eq!(difference.lines, lines);
+        let difference = compare_with(calls, &[plain, list, plain].map(str::to_string));
+        let difference = difference.err().unwrap();
+        let lines: Vec<&[u8]> = vec![b"engine plain", b"setup 1 -", b"engine fast"];
+        assert_eq!(difference.lines, lines);
+        let expected = "reference: engine fast\nother: engine plain";
+        assert!(difference.message.ends_with(expected));
+    }
+
+    #[test]
+    fn lines_before_the_first_setup() {
+        let lists = |calls: &[u8]| {
+            let mut answers = Vec::new();
+            replay(calls, &mut answers).unwrap();
+            let summary = compare(calls, answers.as_slice(), "other").unwrap();
+            summary.unwrap().lists
+        };
+        assert_eq!(lists(b"engine plain\n# comment\nsetup 1 -\nreport\n"), 1);
+        assert_eq!(lists(b"engine plain\nreport\nsetup 1 -\nreport\n"), 2);
     }
 
     #[test]

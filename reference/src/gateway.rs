@@ -1,13 +1,11 @@
-//! The gateway: 01, "An exchange, step by step", with a map from ticket to exchange.
+//! The gateway: 01, "An exchange, step by step".
 
 use crate::algorithms::{nenc, response_nonce_length, Pair, TAG_LENGTH};
-use crate::keeper::{
-    Admitted, Keeper, KeyReport, Opening, Report, LARGEST_CAP, LONGEST_PLAIN, TABLE_SIZE,
-};
+use crate::keeper::{Admitted, Keeper, KeyReport, Opening, Report, LARGEST_CAP, LONGEST_PLAIN};
 use crate::key_list::{read_list, Configuration};
+use crate::pending::PendingTable;
 use crate::refusal::{refusal, Refusal};
 use crate::request::{info, read_request, write_front, Request, INFO_LENGTH};
-use std::collections::BTreeMap;
 
 /// A configured key and its use.
 #[derive(Clone, Debug)]
@@ -40,7 +38,7 @@ pub struct Gateway {
     pub cap: u64,
     pub last_ticket: u64,
     pub keys: Vec<Key>,
-    pub pending: BTreeMap<u64, Exchange>,
+    pub pending: PendingTable,
 }
 
 impl Gateway {
@@ -54,7 +52,7 @@ impl Gateway {
             cap,
             last_ticket: 0,
             keys: configurations.into_iter().map(unused_key).collect(),
-            pending: BTreeMap::new(),
+            pending: PendingTable::new(),
         }
     }
 
@@ -81,9 +79,9 @@ impl Gateway {
         Ok(place)
     }
 
-    /// The exchange of a pending ticket, else 11.
-    fn exchange(&mut self, ticket: u64) -> Result<&mut Exchange, Refusal> {
-        self.pending.get_mut(&ticket).ok_or_else(|| refusal(11))
+    /// The place of a pending ticket's exchange, else 11.
+    fn place(&self, ticket: u64) -> Result<usize, Refusal> {
+        self.pending.place(ticket).ok_or_else(|| refusal(11))
     }
 }
 
@@ -127,15 +125,13 @@ impl Keeper for Gateway {
 
     fn admit(&mut self, request: &[u8], buffer: &mut [u8]) -> Result<Admitted, Refusal> {
         let read = read_request(request)?;
-        let place = self.usable_key(&read)?;
-        if self.pending.len() == TABLE_SIZE {
-            return Err(refusal(9));
-        }
+        let key = self.usable_key(&read)?;
+        let place = self.pending.free_place().ok_or_else(|| refusal(9))?;
         if buffer.len() < INFO_LENGTH {
             return Err(refusal(14));
         }
         write_front(buffer, &info(request));
-        self.keys[place].count += 1;
+        self.keys[key].count += 1;
         self.last_ticket += 1;
         let exchange = Exchange {
             key_id: read.key_id,
@@ -144,7 +140,7 @@ impl Keeper for Gateway {
             ciphertext_length: read.ciphertext.len(),
             state: State::Asked,
         };
-        self.pending.insert(self.last_ticket, exchange);
+        self.pending.put(place, self.last_ticket, exchange);
         Ok(Admitted {
             ticket: self.last_ticket,
             key_id: read.key_id,
@@ -155,13 +151,14 @@ impl Keeper for Gateway {
     }
 
     fn open(&mut self, ticket: u64, success: bool, n: u64) -> Result<Opening, Refusal> {
-        let exchange = self.exchange(ticket)?;
+        let place = self.place(ticket)?;
+        let exchange = self.pending.at(place);
         if exchange.state != State::Asked {
             return Err(refusal(12));
         }
         // "Failure ignores n"
         if !success {
-            self.pending.remove(&ticket);
+            self.pending.take_out(place);
             return Ok(Opening::Failed);
         }
         if n != exchange.opened_length() {
@@ -179,7 +176,8 @@ impl Keeper for Gateway {
         plain: u64,
         buffer: &mut [u8],
     ) -> Result<u64, Refusal> {
-        let exchange = self.exchange(ticket)?;
+        let place = self.place(ticket)?;
+        let exchange = self.pending.at(place);
         if exchange.state != State::Opened {
             return Err(refusal(12));
         }
@@ -192,13 +190,13 @@ impl Keeper for Gateway {
             return Err(refusal(14));
         }
         write_front(buffer, &salt);
-        self.pending.remove(&ticket);
+        self.pending.take_out(place);
         Ok((nonce.len() + TAG_LENGTH) as u64 + plain)
     }
 
     fn abandon(&mut self, ticket: u64) -> Result<(), Refusal> {
-        self.exchange(ticket)?;
-        self.pending.remove(&ticket);
+        let place = self.place(ticket)?;
+        self.pending.take_out(place);
         Ok(())
     }
 
@@ -297,7 +295,7 @@ mod tests {
         assert!(admit(&mut gateway, &edge_request()).is_ok());
         let longest = request(7, 0x0020, 1, 3, 65_536);
         assert!(admit(&mut gateway, &longest).is_ok());
-        assert_eq!(gateway.pending[&2].ciphertext_length, 65_497);
+        assert_eq!(gateway.pending.get(&2).unwrap().ciphertext_length, 65_497);
         assert_eq!(admit(&mut gateway, &request(7, 32, 1, 3, 65_537)), Err(2));
         assert_eq!(admit(&mut gateway, &request(7, 34, 1, 3, 65_537)), Err(2));
     }

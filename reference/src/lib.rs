@@ -18,6 +18,7 @@ pub mod key_list;
 pub mod lines;
 pub mod list_writer;
 pub mod moved;
+pub mod pending;
 pub mod perform;
 pub mod random;
 pub mod refusal;

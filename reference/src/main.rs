@@ -2,12 +2,13 @@
 //! which `sealwax` is held against.
 
 use reference::compare::{self, cut, Difference, Summary};
+use reference::pending::Engine;
 use reference::{day, generate, replay};
 use std::fs::{self, File};
 use std::io::{self, BufReader, BufWriter};
 use std::process::exit;
 
-const USAGE: &str = "usage: reference replay | moved
+const USAGE: &str = "usage: reference replay | moved | by ENGINE
        reference generate SEED CALLS
        reference day SEED CALLS
        reference compare CALLS-FILE ANSWERS-FILE [NAME] [--least N]";
@@ -38,6 +39,10 @@ fn run(words: &[&str]) -> io::Result<i32> {
         }
         ["day", seed, calls] => day::day(number(seed)?, number(calls)?, &mut output)?,
         ["moved"] => replay::write_moved(input, &mut output)?,
+        ["by", name] => match Engine::read(name.as_bytes()) {
+            Some(engine) => replay::write_by(engine, input, &mut output)?,
+            None => return usage(),
+        },
         ["compare", rest @ ..] => return run_compare(rest),
         _ => return usage(),
     }

@@ -102,6 +102,7 @@ mod tests {
     use super::*;
     use crate::call::{read_line, Line};
     use crate::key_list::tests::edge_list;
+    use crate::pending::PendingTable;
 
     /// The list of the test: replies come in another order, some calls are refused.
     fn calls() -> Vec<String> {
@@ -173,7 +174,7 @@ mod tests {
             |gateway| gateway.last_ticket += 1,
             |gateway| gateway.keys[0].count -= 1,
             |gateway| gateway.keys[0].retired = false,
-            |gateway| gateway.pending.clear(),
+            |gateway| gateway.pending = PendingTable::new(),
         ];
         for fault in faults {
             let (list, mut gateway) = run(&calls()[..12]);

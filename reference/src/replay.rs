@@ -1,9 +1,11 @@
 //! The program of REPLAY.md: a call list in, an answer for each call out.
 
-use crate::call::{read_line, Call, Line, LONGEST_LINE};
+use crate::answer;
+use crate::call::{read_engine, read_line, Call, Line, LONGEST_LINE};
 use crate::gateway::Gateway;
 use crate::lines::Lines;
 use crate::moved::{is_gateway_call, moved_order, Answered};
+use crate::pending::Engine;
 use crate::perform::perform;
 use std::io::{self, BufRead, Write};
 
@@ -27,8 +29,23 @@ impl Replay {
         match line {
             Line::PassedOver => None,
             Line::Bad => Some(format!("bad line {}", self.line_number)),
-            Line::Call(call) => Some(perform(&mut self.gateway, call)),
+            Line::Engine(engine) => {
+                self.gateway.pending.engine = *engine;
+                Some(answer::engine(*engine))
+            }
+            Line::Call(call) => {
+                let engine = self.engine();
+                let answer = perform(&mut self.gateway, call);
+                // A setup makes the gateway anew, not the engine.
+                self.gateway.pending.engine = engine;
+                Some(answer)
+            }
         }
+    }
+
+    /// The engine by which the next call goes; at first the fast one.
+    pub fn engine(&self) -> Engine {
+        self.gateway.pending.engine
     }
 }
 
@@ -41,6 +58,31 @@ pub fn replay(input: impl BufRead, output: &mut impl Write) -> io::Result<()> {
             answer.push('\n');
             output.write_all(answer.as_bytes())?;
         }
+    }
+    output.flush()
+}
+
+/// Writes the lines so that all calls go by one engine: each line of an engine names it, and one
+/// stands in front. The answers to the lines are written so too, since such a line is its answer.
+pub fn write_by(
+    engine: Engine,
+    mut input: impl BufRead,
+    output: &mut impl Write,
+) -> io::Result<()> {
+    let engine = answer::engine(engine);
+    let mut line = Vec::new();
+    let mut in_front = true;
+    while input.read_until(b'\n', &mut line)? > 0 {
+        let text = line.strip_suffix(b"\n").unwrap_or(&line);
+        let names_engine = read_engine(text).is_some();
+        if in_front || names_engine {
+            writeln!(output, "{engine}")?;
+        }
+        if !names_engine {
+            output.write_all(&line)?;
+        }
+        in_front = false;
+        line.clear();
     }
     output.flush()
 }
@@ -130,6 +172,113 @@ mod tests {
     }
 
     #[test]
+    fn the_engine_line() {
+        let admit = format!("admit 07002000010003{} 29", "00".repeat(48));
+        let setup = format!("setup 9 {}", edge_list());
+        let calls = [
+            "engine plain",
+            &setup,
+            &admit,
+            "engine fast",
+            &admit,
+            "open 1 ok 0",
+            "engine plain",
+            "abandon 2",
+            "abandon 2",
+            &admit,
+            "engine",
+            "engine slow",
+            "engine fast plain",
+            "engine fast",
+            "engine fast",
+            "abandon 3",
+            "report",
+        ];
+        let info = "6d6573736167652f626874747020726571756573740007002000010003";
+        let admitted = |ticket: u64| {
+            format!(
+                "admitted ticket={ticket} key=7 kdf=0001 aead=0003 enc=7..39 ciphertext=39..55 \
+                 buffer={info}"
+            )
+        };
+        let expected = [
+            "engine plain",
+            "ready keys=1",
+            &admitted(1),
+            "engine fast",
+            &admitted(2),
+            "opened",
+            "engine plain",
+            "abandoned",
+            "refused 11",
+            &admitted(3),
+            "bad line 11",
+            "bad line 12",
+            "bad line 13",
+            "engine fast",
+            "engine fast",
+            "abandoned",
+            "report last=3 pending=1 keys=7:3:live",
+            "",
+        ];
+        assert_eq!(answers(&calls.join("\n")), expected.join("\n"));
+    }
+
+    #[test]
+    fn setups_and_bad_lines_leave_the_engine() {
+        let mut replay = Replay::new();
+        assert_eq!(replay.engine(), Engine::Fast);
+        let setup = format!("setup 9 {}", edge_list());
+        for (line, engine) in [
+            ("report", Engine::Fast),
+            ("engine plain", Engine::Plain),
+            (&setup, Engine::Plain),
+            ("setup 0 -", Engine::Plain),
+            ("engine", Engine::Plain),
+            ("engine fast plain", Engine::Plain),
+            ("# engine fast", Engine::Plain),
+            ("engine fast", Engine::Fast),
+            (&setup, Engine::Fast),
+        ] {
+            replay.answer(&read_line(line.as_bytes()));
+            assert_eq!(replay.engine(), engine, "{line}");
+        }
+    }
+
+    #[test]
+    fn all_by_one_engine() {
+        let by = |engine: Engine, lines: &str| {
+            let mut output = Vec::new();
+            write_by(engine, lines.as_bytes(), &mut output).unwrap();
+            String::from_utf8(output).unwrap()
+        };
+        let (calls, plain) = (
+            "# a\nreport\nengine fast\n\nengine plain\nengine\nreport",
+            "# a\nreport\nengine plain\n\nengine plain\nengine\nreport",
+        );
+        assert_eq!(by(Engine::Plain, calls), format!("engine plain\n{plain}"));
+        let calls = "engine plain\nreport\n";
+        assert_eq!(by(Engine::Fast, calls), "engine fast\nreport\n");
+        assert_eq!(by(Engine::Plain, calls), calls);
+    }
+
+    /// Each engine alone gives the answers that both give by turns.
+    #[test]
+    fn engines_answer_alike() {
+        let mut mixed = Vec::new();
+        crate::generate::generate(7, 30_000, &mut mixed).unwrap();
+        let mut answers = Vec::new();
+        replay(mixed.as_slice(), &mut answers).unwrap();
+        for engine in [Engine::Plain, Engine::Fast] {
+            let (mut calls, mut output, mut expected) = (Vec::new(), Vec::new(), Vec::new());
+            write_by(engine, mixed.as_slice(), &mut calls).unwrap();
+            replay(calls.as_slice(), &mut output).unwrap();
+            write_by(engine, answers.as_slice(), &mut expected).unwrap();
+            assert!(output == expected);
+        }
+    }
+
+    #[test]
     fn a_moved_list() {
         let admit = format!("admit 07002000010003{} 29", "00".repeat(48));
         let setup = format!("setup 9 {}", edge_list());
@@ -144,6 +293,7 @@ mod tests {
             "abandon 1",
             "retire 7",
             "check -",
+            "engine plain",
             "exporter 0001 22",
         ];
         let mut output = Vec::new();

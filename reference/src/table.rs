@@ -27,6 +27,9 @@ pub const POSSIBLE: [(&str, &[&str]); 15] = [
     ("bad line", &["bad"]),
 ];
 
+/// The line that is no call of the gateway, and its answers.
+pub const ENGINE: (&str, &[&str]) = ("engine", &["plain", "fast"]);
+
 struct Row {
     call: &'static str,
     answer: String,
@@ -41,7 +44,7 @@ impl Table {
     /// Every possible answer, none reached.
     pub fn new() -> Table {
         let mut table = Table { rows: Vec::new() };
-        for (call, answers) in POSSIBLE {
+        for (call, answers) in POSSIBLE.into_iter().chain([ENGINE]) {
             for answer in answers {
                 table.count(call, answer, 0);
             }
@@ -63,11 +66,11 @@ impl Table {
 
     /// Counts the answer to a line.
     pub fn count_answer(&mut self, line: &Line, answer: &str) {
-        let call = match line {
-            Line::Call(call) => name(call),
-            _ => "bad line",
-        };
-        self.count(call, answer_name(answer), 1);
+        match line {
+            Line::Call(call) => self.count(name(call), answer_name(answer), 1),
+            Line::Engine(engine) => self.count(ENGINE.0, engine.name(), 1),
+            _ => self.count("bad line", answer_name(answer), 1),
+        }
     }
 
     /// The rows that were reached fewer times than that.

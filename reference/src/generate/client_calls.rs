@@ -148,7 +148,7 @@ pub fn split(random: &mut Random) -> String {
         _ => nonce + random.between(16, 100),
     };
     let long = [nonce + 65_552, nonce + 65_553, nonce + 65_553, 70_000];
-    let length = if random.one_in(75) {
+    let length = if random.one_in(65) {
         random.pick(&long)
     } else {
         length

@@ -12,6 +12,7 @@ use crate::call::{read_line, Call, Line};
 use crate::gateway::Gateway;
 use crate::keeper::{LARGEST_CAP, TABLE_SIZE};
 use crate::moved::is_gateway_call;
+use crate::pending::Engine;
 use crate::perform::perform;
 use crate::random::Random;
 use std::io::{self, Write};
@@ -26,6 +27,9 @@ enum Aim {
     Mixed,
     /// 128 pending.
     Full,
+    /// Pending tickets that lie 128 apart: of every 128 tickets so many stay pending, and the
+    /// others are closed at once.
+    Apart(u64),
 }
 
 fn aim(random: &mut Random) -> Aim {
@@ -33,6 +37,7 @@ fn aim(random: &mut Random) -> Aim {
         0..=4 => Aim::Refused,
         5..=10 => Aim::Worn,
         11..=13 => Aim::Full,
+        14 => Aim::Apart(random.pick(&[1, 4, 20, 43, 64, 64, 90])),
         _ => Aim::Mixed,
     }
 }
@@ -49,7 +54,7 @@ struct Generator<'a, W: Write> {
     output: &'a mut W,
 }
 
-/// Writes exactly so many calls; comments and empty lines come on top.
+/// Writes exactly so many calls, an engine's line first; comments and empty lines come on top.
 pub fn generate(seed: u64, calls: u64, output: &mut impl Write) -> io::Result<()> {
     let mut generator = Generator {
         random: Random::new(seed),
@@ -59,6 +64,9 @@ pub fn generate(seed: u64, calls: u64, output: &mut impl Write) -> io::Result<()
         open_end: seed % 2 == 1,
         output,
     };
+    // With it in front, all calls can go by one engine and keep their line numbers.
+    let engine = engine(&mut generator.random);
+    generator.write(engine.as_bytes())?;
     while generator.left > 0 {
         generator.list()?;
     }
@@ -74,6 +82,7 @@ impl<W: Write> Generator<'_, W> {
             Aim::Worn => self.random.between(20, 150),
             Aim::Mixed => self.random.between(100, 800),
             Aim::Full => self.random.between(200, 800),
+            Aim::Apart(_) => self.random.between(400, 1_600),
         };
         let setup = setup(&mut self.random, aim);
         self.write(setup.as_bytes())?;
@@ -85,7 +94,11 @@ impl<W: Write> Generator<'_, W> {
                 let comment = bad_lines::comment(&mut self.random);
                 self.write(&comment)?;
             }
-            let line = self.line(aim);
+            let line = if self.random.one_in(60) {
+                engine(&mut self.random).into_bytes()
+            } else {
+                self.line(aim)
+            };
             self.write(&line)?;
         }
         Ok(())
@@ -115,15 +128,39 @@ impl<W: Write> Generator<'_, W> {
     }
 
     fn line(&mut self, aim: Aim) -> Vec<u8> {
-        let full = self.gateway.pending.len() == TABLE_SIZE;
-        if aim == Aim::Full && !full && !self.random.one_in(5) {
-            return requests::right_admit(&mut self.random, &self.gateway).into_bytes();
+        if let Some(call) = self.aimed_call(aim) {
+            return call.into_bytes();
         }
         if self.random.one_in(40) {
-            let call = self.call();
+            let call = if self.random.one_in(15) {
+                engine(&mut self.random)
+            } else {
+                self.call()
+            };
             return bad_lines::bad_line(&mut self.random, call.as_bytes());
         }
         self.call().into_bytes()
+    }
+
+    /// What brings the list where it is to go, most of the time, until it is there.
+    fn aimed_call(&mut self, aim: Aim) -> Option<String> {
+        let stays = match aim {
+            Aim::Full => 128,
+            Aim::Apart(stays) => stays,
+            _ => return None,
+        };
+        if self.random.one_in(5) {
+            return None;
+        }
+        let (random, gateway) = (&mut self.random, &self.gateway);
+        let last = gateway.last_ticket;
+        if gateway.pending.get(&last).is_some() && last % 128 >= stays {
+            return Some(ticket_calls::close(random, last));
+        }
+        if gateway.pending.len() == TABLE_SIZE {
+            return None;
+        }
+        Some(requests::right_admit(random, gateway))
     }
 
     /// A call of any kind.
@@ -149,6 +186,10 @@ impl<W: Write> Generator<'_, W> {
     }
 }
 
+fn engine(random: &mut Random) -> String {
+    crate::answer::engine(random.pick(&[Engine::Plain, Engine::Fast]))
+}
+
 fn setup(random: &mut Random, aim: Aim) -> String {
     let refused = aim == Aim::Refused;
     let bad_cap = refused && random.one_in(2);
@@ -172,12 +213,14 @@ fn caps(aim: Aim) -> &'static [u64] {
         Aim::Worn => &[1, 1, 2, 2, 3, 3, 5],
         Aim::Mixed => &[3, 10, 30, 100, 1_000, LARGEST_CAP - 1, LARGEST_CAP],
         Aim::Full => &[128, 129, 140, 255, 256, 1_000, 65_536, LARGEST_CAP],
+        Aim::Apart(_) => &[1_000, 65_536, LARGEST_CAP],
     }
 }
 
 #[cfg(test)]
 mod tests {
     use super::*;
+    use crate::replay::Replay;
 
     fn lists(seed: u64, calls: u64) -> Vec<u8> {
         let mut output = Vec::new();
@@ -193,6 +236,83 @@ mod tests {
             let counted = lines.filter(|line| read_line(line) != Line::PassedOver);
             assert_eq!(counted.count() as u64, calls);
         }
+    }
+
+    /// The lines of the lists, each with the gateway before it.
+    fn run(seed: u64, calls: u64, mut see: impl FnMut(&Gateway, &Line)) {
+        let mut replay = Replay::new();
+        for line in lists(seed, calls).split(|byte| *byte == b'\n') {
+            let line = read_line(line);
+            see(&replay.gateway, &line);
+            replay.answer(&line);
+        }
+    }
+
+    #[test]
+    fn engines_are_mixed_within_lists() {
+        let (mut lines, mut switches, mut with_pending) = (0, 0, 0);
+        run(1, 50_000, |gateway, line| {
+            if let Line::Engine(engine) = line {
+                let switch = *engine != gateway.pending.engine;
+                lines += 1;
+                switches += usize::from(switch);
+                with_pending += usize::from(switch && gateway.pending.len() > 20);
+            }
+        });
+        assert!(lines > 500, "{lines}");
+        assert!(switches > 250, "{switches}");
+        assert!(with_pending > 50, "{with_pending}");
+    }
+
+    #[test]
+    fn bad_lines_of_engine_are_reached() {
+        let output = lists(1, 100_000);
+        let lines = output.split(|byte| *byte == b'\n');
+        let bad = lines.filter(|line| line.starts_with(b"engine") && read_line(line) == Line::Bad);
+        let mut bad: Vec<&[u8]> = bad.collect();
+        assert!(bad.len() > 50, "{}", bad.len());
+        bad.sort_unstable();
+        bad.dedup();
+        for line in ["engine", "engine slow", "engine plain fast"] {
+            assert!(bad.contains(&line.as_bytes()), "{line}");
+        }
+    }
+
+    /// Where the ticket's place is taken, by another ticket with the same remainder by 128.
+    fn place_is_taken(gateway: &Gateway, ticket: u64) -> bool {
+        let mut pending = gateway.pending.keys();
+        pending.any(|other| *other != ticket && *other % 128 == ticket % 128)
+    }
+
+    #[test]
+    fn tickets_128_apart_and_full_tables_are_reached() {
+        let (mut admitted, mut found, mut not_found) = (0, 0, 0);
+        let (mut full, mut full_apart) = (0, 0);
+        let mut last_ticket = 0;
+        run(1, 200_000, |gateway, line| {
+            let fresh = gateway.last_ticket > last_ticket;
+            last_ticket = gateway.last_ticket;
+            admitted += usize::from(fresh && place_is_taken(gateway, last_ticket));
+            match line {
+                Line::Call(
+                    Call::Open { ticket, .. }
+                    | Call::Respond { ticket, .. }
+                    | Call::Abandon { ticket },
+                ) if place_is_taken(gateway, *ticket) => {
+                    let pending = gateway.pending.get(ticket).is_some();
+                    found += usize::from(pending);
+                    not_found += usize::from(!pending);
+                }
+                _ => {}
+            }
+            if gateway.pending.len() == TABLE_SIZE {
+                full += 1;
+                let mut tickets = gateway.pending.keys();
+                full_apart += usize::from(tickets.any(|ticket| place_is_taken(gateway, *ticket)));
+            }
+        });
+        let reached = [admitted, found, not_found, full, full_apart];
+        assert!(reached.iter().all(|times| *times > 1_000), "{reached:?}");
     }
 
     #[test]

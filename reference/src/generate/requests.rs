@@ -28,7 +28,7 @@ pub fn admit(random: &mut Random, gateway: &Gateway) -> String {
             spoil(random, gateway, &mut draft);
         }
     }
-    if random.one_in(450) {
+    if random.one_in(360) {
         draft.length = random.pick(&[65_535, 65_536, 65_537, 65_537, 65_537, 70_000]);
     }
     let room = match random.below(16) {

@@ -77,6 +77,15 @@ pub fn abandon(random: &mut Random, gateway: &Gateway) -> String {
     format!("abandon {}", decimal(random, ticket))
 }
 
+/// Closes a ticket whose exchange is asked.
+pub fn close(random: &mut Random, ticket: u64) -> String {
+    if random.one_in(2) {
+        format!("abandon {ticket}")
+    } else {
+        format!("open {ticket} failed 0")
+    }
+}
+
 /// Live keys are retired seldom, the last one most seldom, so that lists go deep.
 pub fn retire(random: &mut Random, gateway: &Gateway) -> String {
     let ids = |retired: bool| -> Vec<u8> {
@@ -102,7 +111,7 @@ fn ticket(random: &mut Random, gateway: &Gateway, passes: impl Fn(&Exchange) -> 
     let last = gateway.last_ticket;
     let pending: Vec<u64> = gateway.pending.keys().copied().collect();
     let given = 1 + random.below(last as usize + 1) as u64;
-    match random.below(9) {
+    match random.below(11) {
         0 => 0,
         1 => last,
         2 => last + 1,
@@ -112,6 +121,11 @@ fn ticket(random: &mut Random, gateway: &Gateway, passes: impl Fn(&Exchange) -> 
         6 if !pending.is_empty() => random.pick(&pending),
         // The same in its low bits alone.
         7 if !pending.is_empty() => random.pick(&pending) + random.pick(&[256, 65_536, 1 << 32]),
+        // The same place in a table of 128 places that goes by the ticket.
+        8 | 9 if !pending.is_empty() => {
+            let ticket = random.pick(&pending);
+            random.pick(&[ticket + 128, ticket.saturating_sub(128)])
+        }
         _ => random.next(),
     }
 }
