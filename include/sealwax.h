@@ -242,6 +242,15 @@ sealwax_outcome sealwax_retire(sealwax_gateway *gateway, uint8_t key_id);
 /* Last ticket, number pending, and each key's count and retirement. Changes nothing, and is never refused. */
 sealwax_report_result sealwax_report(const sealwax_gateway *gateway);
 
+/* ---- the search alone: for measuring what it costs; a host needs neither */
+
+/* The place of the pending exchange with a ticket, by a walk over the table; 128 where none has it. Changes nothing. */
+size_t sealwax_plain_find(sealwax_gateway *gateway, uint64_t ticket);
+
+/* The same by a ticket's home: place near % 128 is looked at first, and the walk is made where the ticket is not there. The calls on a
+   ticket search with near = ticket. */
+size_t sealwax_find(sealwax_gateway *gateway, uint64_t ticket, uint64_t near);
+
 /* ---- key lists */
 
 /* Whether a key list is good. Refusal: 15. */

@@ -223,6 +223,11 @@ extern "C" {
     pub fn sealwax_abandon(gateway: *mut Gateway, ticket: u64) -> Outcome;
     pub fn sealwax_retire(gateway: *mut Gateway, key_id: u8) -> Outcome;
     pub fn sealwax_report(gateway: *const Gateway) -> ReportResult;
+    // These two are for measuring what a search alone costs.
+    #[allow(dead_code)]
+    pub fn sealwax_plain_find(gateway: *mut Gateway, ticket: u64) -> usize;
+    #[allow(dead_code)]
+    pub fn sealwax_find(gateway: *mut Gateway, ticket: u64, near: u64) -> usize;
     pub fn sealwax_check(list: *const u8, list_length: usize) -> CheckResult;
     pub fn sealwax_key(list: *const u8, list_length: usize, key_id: u8) -> KeyResult;
     pub fn sealwax_write(
