@@ -1,20 +1,26 @@
 //! What the exported calls cost, beside the same work in plain Rust and beside an HPKE opening.
 //! `./bench` at the repository's root builds and runs it.
 
+mod bars;
+mod calls;
+mod lookups;
+mod places;
 #[path = "../../src/raw.rs"]
 #[allow(dead_code)]
 mod raw;
 mod sides;
 mod table;
 mod timing;
+mod tuned;
 
+use bars::Bar;
 use sealwax as _;
 use std::process::{exit, Command};
 use table::Table;
-use timing::{Line, Places, Times};
+use timing::improve;
 
 /// How often an opening is timed, and then all calls.
-const PASSES: usize = 10;
+const PASSES: usize = 20;
 
 const USAGE: &str = "usage: bench OPENING-PROGRAM [--check]";
 
@@ -27,7 +33,7 @@ fn main() {
             Ok(0)
         }
         [program] => run(program).map(|_| 0),
-        [program, "--check"] => run(program).map(|table| i32::from(!table.all_met())),
+        [program, "--check"] => run(program).map(|all_met| i32::from(!all_met)),
         _ => Err(USAGE.to_string()),
     };
     exit(status.unwrap_or_else(|error| {
@@ -36,10 +42,16 @@ fn main() {
     }));
 }
 
-fn run(program: &str) -> Result<Table, String> {
+/// Prints the table, the bars and the goal, and says whether the bars are met.
+fn run(program: &str) -> Result<bool, String> {
     let table = measure(program)?;
-    print!("{table}");
-    Ok(table)
+    println!("{table}");
+    let bars = bars::bars(&table);
+    for bar in &bars {
+        println!("bar: {bar}");
+    }
+    println!("goal: {}", bars::goal(&table));
+    Ok(bars.iter().all(Bar::is_met))
 }
 
 /// Openings and calls take turns, so that a slow time of the machine slows both. Where memory lies
@@ -47,43 +59,26 @@ fn run(program: &str) -> Result<Table, String> {
 fn measure(program: &str) -> Result<Table, String> {
     let bench = std::env::current_exe().map_err(|error| error.to_string())?;
     let bench = bench.to_string_lossy();
-    let lines = Line::all();
-    let mut best = vec![Times::SLOWEST; lines.len()];
-    let mut places = Places::SLOWEST;
     let mut opening = f64::INFINITY;
+    let mut best = Vec::new();
     for _ in 0..PASSES {
         opening = opening.min(number(&output(program, &[])?)?);
         let pass = output(&bench, &["--pass"])?;
-        let mut pass = pass.lines();
-        for best in &mut best {
-            let (library, plain_rust) = two_numbers(pass.next())?;
-            best.improve(Times {
-                library,
-                plain_rust,
-            });
-        }
-        let (median, worst) = two_numbers(pass.next())?;
-        places.improve(Places { median, worst });
+        let figures: Vec<f64> = pass.lines().map(number).collect::<Result<_, _>>()?;
+        best.resize(figures.len(), f64::INFINITY);
+        improve(&mut best, &figures);
     }
-    Ok(Table::new(&lines, &best, places, opening))
+    Ok(Table::new(&best, opening))
 }
 
-/// A pass: the two sides' times for each line of the table, then those by places.
+/// A pass: the figures that [`Table::new`] takes, each on a line.
 fn print_pass() {
-    for line in Line::all() {
-        let Times {
-            library,
-            plain_rust,
-        } = line.run();
-        println!("{library} {plain_rust}");
+    let lines = calls::Line::all();
+    let calls = lines.iter().flat_map(calls::Line::run);
+    let lookups = lookups::KINDS.iter().flat_map(lookups::run);
+    for figure in calls.chain(lookups).chain(places::run()) {
+        println!("{figure}");
     }
-    let Places { median, worst } = Places::run();
-    println!("{median} {worst}");
-}
-
-fn two_numbers(line: Option<&str>) -> Result<(f64, f64), String> {
-    let (first, second) = line.unwrap_or("").split_once(' ').unwrap_or(("", ""));
-    Ok((number(first)?, number(second)?))
 }
 
 fn number(text: &str) -> Result<f64, String> {

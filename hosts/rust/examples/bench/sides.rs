@@ -1,8 +1,9 @@
-//! The two sides: the library's C functions, and the reference's gateway in plain Rust.
+//! The three sides: the library's C functions, and two gateways in plain Rust, the reference's and a
+//! tuned one.
 
-use crate::raw;
-use reference::gateway::Gateway;
-use reference::keeper::Keeper;
+use crate::{raw, tuned};
+use reference::gateway;
+use reference::keeper::{Keeper, Report, TABLE_SIZE};
 use reference::list_writer::{encode, Fields};
 use std::arch::asm;
 
@@ -14,13 +15,13 @@ const OPENED_LENGTH: u64 = (REQUEST_LENGTH - ENC_END - 16) as u64;
 const PLAIN_LENGTH: u64 = 1_000;
 
 /// Hides a value from the compiler; `std::hint::black_box` is not in Rust 1.63 yet.
-fn black_box<T>(mut value: T) -> T {
+pub fn black_box<T>(mut value: T) -> T {
     // SAFETY: nothing is executed; the compiler has to believe that the value is read and written.
     unsafe { asm!("/* {0} */", in(reg) &mut value, options(nostack, preserves_flags)) };
     value
 }
 
-/// What both sides are given: X25519, HKDF-SHA256, AES-128-GCM.
+/// What all sides are given: X25519, HKDF-SHA256, AES-128-GCM.
 pub struct Inputs {
     list: Vec<u8>,
     request: Vec<u8>,
@@ -50,7 +51,7 @@ impl Inputs {
     }
 }
 
-/// A gateway's state, the same on both sides: last ticket, number pending, the key's retirement.
+/// A gateway's state, the same on all sides: last ticket, number pending, the key's retirement.
 pub type State = (u64, usize, bool);
 
 /// A gateway of one side. Answers are only made; what they were shows in the state.
@@ -62,10 +63,26 @@ pub trait Side: Clone {
     fn abandon(&mut self, ticket: u64);
     fn retire(&mut self);
     fn report(&self);
+    /// A lookup alone: whether the ticket is pending.
+    fn find(&mut self, ticket: u64) -> bool;
     fn state(&self) -> State;
 }
 
 pub use crate::raw::Gateway as Library;
+
+impl Library {
+    /// The ticket's place, or the table's size, by the walk.
+    pub fn place_by_walk(&mut self, ticket: u64) -> usize {
+        // SAFETY: raw::setup made the gateway.
+        unsafe { raw::sealwax_plain_find(self, ticket) }
+    }
+
+    /// The same by the ticket's home, as the calls find it.
+    pub fn place_by_home(&mut self, ticket: u64) -> usize {
+        // SAFETY: raw::setup made the gateway.
+        unsafe { raw::sealwax_find(self, ticket, ticket) }
+    }
+}
 
 impl Side for Library {
     fn setup(inputs: &Inputs) -> Library {
@@ -133,6 +150,10 @@ impl Side for Library {
         black_box(&result);
     }
 
+    fn find(&mut self, ticket: u64) -> bool {
+        self.place_by_home(ticket) < TABLE_SIZE
+    }
+
     fn state(&self) -> State {
         let report = raw::report(self);
         let key = report.keys[report.key_count - 1];
@@ -140,12 +161,46 @@ impl Side for Library {
     }
 }
 
-#[derive(Clone)]
-pub struct PlainRust(Gateway);
+/// What the gateways in plain Rust have each in its own form.
+pub trait Plain: Keeper + Clone {
+    type Report;
+    fn own_report(&self) -> Self::Report;
+    fn is_pending(&self, ticket: u64) -> bool;
+}
 
-impl Side for PlainRust {
-    fn setup(inputs: &Inputs) -> PlainRust {
-        PlainRust(Gateway::setup(CAP, &inputs.list).0)
+impl Plain for gateway::Gateway {
+    type Report = Report;
+
+    fn own_report(&self) -> Report {
+        self.report()
+    }
+
+    fn is_pending(&self, ticket: u64) -> bool {
+        self.pending.contains_key(&ticket)
+    }
+}
+
+impl Plain for tuned::Gateway {
+    type Report = tuned::Snapshot;
+
+    fn own_report(&self) -> tuned::Snapshot {
+        self.snapshot()
+    }
+
+    fn is_pending(&self, ticket: u64) -> bool {
+        self.find(ticket).is_ok()
+    }
+}
+
+#[derive(Clone)]
+pub struct PlainRust<K>(K);
+
+pub type Reference = PlainRust<gateway::Gateway>;
+pub type Tuned = PlainRust<tuned::Gateway>;
+
+impl<K: Plain> Side for PlainRust<K> {
+    fn setup(inputs: &Inputs) -> PlainRust<K> {
+        PlainRust(K::setup(CAP, &inputs.list).0)
     }
 
     fn admit(&mut self, inputs: &mut Inputs) -> u64 {
@@ -181,8 +236,12 @@ impl Side for PlainRust {
     }
 
     fn report(&self) {
-        let result = self.0.report();
+        let result = self.0.own_report();
         black_box(&result);
+    }
+
+    fn find(&mut self, ticket: u64) -> bool {
+        self.0.is_pending(ticket)
     }
 
     fn state(&self) -> State {
