@@ -26,7 +26,7 @@ fn read(text: &[u8]) -> Vec<Call> {
     lines
         .filter_map(|line| match read_line(line) {
             Line::Call(call) => Some(call),
-            Line::Bad | Line::PassedOver => None,
+            Line::Bad | Line::PassedOver | Line::Engine(_) => None,
         })
         .collect()
 }
