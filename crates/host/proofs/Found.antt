@@ -1,5 +1,5 @@
 -- `sealwax_find`, as the walks of the functions that call it use it: the gateway is lent to it for the call and comes back as it was, and its answer is
--- the place that the fast engine finds.
+-- the place that the fast engine finds. And `inside`, which makes a place of the table of its answer.
 -- Assumes nothing.
 use mathlib.Core.Path.{_≡_, refl, sym, ap, subst}
 use mathlib.Core.List.{List, [], _∷_}
@@ -34,9 +34,10 @@ use denote.Triple.Spec.{tripleOf}
 use Rattle.gateway.specs.declared.Gateway.{Gateway}
 use Rattle.gateway.specs.declared.table.Engine.{Engine}
 use Rattle.gateway.specs.Gateway.{placeBy}
-use Rattle.gateway.specs.Helpers.{hasNumber}
+use Rattle.gateway.specs.Helpers.{hasNumber, inside}
 use Rattle.gateway.proofs.Gateway as gateway
-use Rattle.host.proofs.Walking.{returned}
+use Rattle.gateway.proofs.table.inside as within
+use Rattle.host.proofs.Walking.{returned, both}
 use Rattle.host.proofs.table.sealwax_find as find
 
 module _ {M : Type 1} (𝓤 : URA M) (H : Heap 𝓤) (A : Atoms 𝓤) (at-mem : Memory → SProp 𝓤) (run : Routine → Fun 𝓤) where
@@ -95,3 +96,36 @@ module _ {M : Type 1} {𝓤 : URA M} {H : Heap 𝓤} {A : Atoms 𝓤} {K : Type 
       move t (2 ∷ []) $ drop t $ move t (2 ∷ []) $ drop t $ fsplit3 t $ drop t $
       subst (λ (u : Val). Seq K W (‵ (fobs γ (gateway.the-row .coded .code g)) ∷ ‵ (fbor κ (Body (mem gateway.the-row) b o γ)) ∷ ‵ (flft κ p) ∷ Γ)
       (lands C Λ E d u rest q)) (sym (ap only (uint-tells w64 r (v ∷ []) is))) (then r (is .1) (said .0)))))))
+
+-- `inside`
+module _ {M : Type 1} (𝓤 : URA M) (H : Heap 𝓤) (A : Atoms 𝓤) (at-mem : Memory → SProp 𝓤) (run : Routine → Fun 𝓤) where
+  abbrev pub Inside : Contract 𝓤
+  Inside = tripleOf 𝓤 H A within.signature (within.spec 𝓤 H A at-mem run)
+
+  module _ (found : ℕ) where
+    abbrev to-inside : Inside .Ghost
+    to-inside = ((tt, tt, tt, (found, tt), (vint w64 found ∷ [], tt)), tt)
+
+    abbrev owned-by-inside : Fml
+    owned-by-inside = owns (usize ∷ []) (found, tt) (vint w64 found ∷ [], tt)
+
+    goes-inside : (W : Given 𝓤 H A) → ent 𝓤 (⋆ 𝓤 H A (‵ ftrue ∷ ‵ owned-by-inside ∷ [])) (Inside .pre to-inside)
+    goes-inside W = qed W (‵ ftrue ∷ ‵ owned-by-inside ∷ []) ∵ join ! $ frame ! $ done !
+
+module _ {M : Type 1} {𝓤 : URA M} {H : Heap 𝓤} {A : Atoms 𝓤} {K : Type 0} {W : Given 𝓤 H A} {Γ : List (Item 𝓤)}
+    {E : Env 𝓤 H} {C : Calls 𝓤 H} {Λ : Loops 𝓤 H} {q : Post 𝓤 H} where
+  -- the call: of the context the operand sees that one entry stands before Γ
+  pub calls-inside : K → FmC 𝓤 H (W .laws) C → (at-mem : Memory → SProp 𝓤) (run : Routine → Fun 𝓤)
+      → Triple 𝓤 (C within.Symbol.name) (Inside 𝓤 H A at-mem run) → (found : ℕ) → found < 2 ^ 64 → {xs : List Operand} {d : Place} {rest : Code}
+      → ((i : Item 𝓤) → Opds K W (i ∷ Γ) E xs (vint w64 found ∷ []))
+      → ((r : ℕ) → r < 2 ^ 64 → r < 128 → r ≡ inside found → Seq K W Γ (lands C Λ E d (vint w64 r) rest q))
+      → Seq K W Γ (runs C Λ E (seq (call within.Symbol.name xs d) rest) q)
+  calls-inside t fm at-mem run met found fits {xs} {d} {rest} operands then =
+      let asked = to-inside 𝓤 H A at-mem run found in
+      nothing t $ owned t usize (Is usize) (uint-makes 𝓤 H A W w64) found _ (refl, fits) $ fjoin t $ nothing t $
+      use2 W (raw (Inside 𝓤 H A at-mem run .pre asked)) (goes-inside 𝓤 H A at-mem run found W) $
+      calls-at t fm (Inside 𝓤 H A at-mem run) met asked (operands _) (λ v.
+      returned t within.ended (within.clauses 𝓤 H A at-mem run) asked v (λ r ws. (r ≡ inside found) × (r < 128)) tt
+      (λ r ws. both 𝓤 (r ≡ inside found) (r < 128)) (λ r ws said.
+      peeks t usize (Is usize) (shows 𝓤 H A usize) r (v ∷ []) (λ is. drop t $ drop t $ drop t $
+      subst (λ (u : Val). Seq K W Γ (lands C Λ E d u rest q)) (sym (ap only (uint-tells w64 r (v ∷ []) is))) (then r (is .1) (said .1) (said .0)))))

@@ -1,5 +1,5 @@
 -- How the parameters of an exported call go on to the function that the call asks: a number and a `&[u8]` are copied, a `&mut [u8]` is lent again.
--- The call's first lifetime is the gateway's; the function has the gateway by value, and so all lifetimes but that one.
+-- The call's first lifetime is the gateway's; the function is given what it reads of the gateway by value, and so has all lifetimes but that one.
 -- Assumes nothing.
 use mathlib.Core.Path.{_≡_, refl, ap}
 use Prim.Native.Nat.{ℕ, suc}

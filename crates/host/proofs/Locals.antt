@@ -47,9 +47,6 @@ module _ {M : Type 1} (𝓤 : URA M) (H : Heap 𝓤) where
   one-more e E i [] bs at = tt
   one-more e E i (τ ∷ τs) bs at = (at .0, one-more e E (suc i) τs (bs .1) (at .1))
 
-  pub two-more : (e f : Ty × ℕ) (E : Env 𝓤 H) (i : ℕ) (τs : List Ty) (bs : Blocks τs) → Spots E i τs bs → Spots (e ∷ f ∷ E) (suc (suc i)) τs bs
-  two-more e f E i τs bs at = one-more e (f ∷ E) (suc i) τs bs (one-more f E i τs bs at)
-
   pub first : (τs : List Ty) (bs : Blocks τs) (E : Env 𝓤 H) → Spots (entries τs bs ++ E) 0 τs bs
   first [] bs E = tt
   first (τ ∷ τs) bs E = (refl, one-more (τ, bs .0) (entries τs (bs .1) ++ E) 0 τs (bs .1) (first τs (bs .1) E))

@@ -1,8 +1,7 @@
--- `host::gateway_calls::sealwax_open` meets its contract, by the law for exported calls. Assumes nothing.
+-- `host::gateway_calls::sealwax_open` meets its contract, by the law for exported calls on a ticket. Assumes nothing.
 use mathlib.Core.Bool.{not}
 use lib.Dec.{eqb}
 use Rattle.exchange.specs.Steps.{openResult}
-use Rattle.gateway.specs.Calls.{onTicket}
 use Rattle.results.specs.Calls.{stepResult}
 use Rattle.host.proofs.Exported.{law, u64, u8, [], _∷_}
 use Rattle.results.proofs.outcome.NumberResult as Result
@@ -14,6 +13,6 @@ pub sealwax-open-spec : {M : Type 1} → export.Statement.statement M
 unfolding export.Code.routine
 sealwax-open-spec 𝓤 H 𝓜 𝓖 𝓡 =
     law Result.the-type Result.Laws.the-laws Result.Laws.the-plain (Done.struct .name) (Done.struct .as-values) (Done.the-type .to-one)
-    (u64 ∷ u8 ∷ u64 ∷ []) (λ ticket success n. onTicket ticket (openResult (not (eqb success 0)) n)) stepResult 𝓤 H 𝓜 𝓖 𝓡
-    export.Code.env export.Key.name step.Symbol.name (export.Code.unfolded 𝓤 H 𝓜 𝓡) export.Code.calls-host·change·apply
-    step.Symbol.routine export.Code.calls-results·gateway-calls·open (step.Met.met 𝓤 H 𝓜 𝓖 𝓡)
+    (u8 ∷ u64 ∷ []) (λ success n. openResult (not (eqb success 0)) n) stepResult 𝓤 H 𝓜 𝓖 𝓡
+    export.Code.env export.Key.name step.Symbol.name (export.Code.unfolded 𝓤 H 𝓜 𝓡) export.Code.calls-host·table·sealwax-find
+    export.Code.calls-gateway·table·inside step.Symbol.routine export.Code.calls-results·gateway-calls·open (step.Met.met 𝓤 H 𝓜 𝓖 𝓡)
