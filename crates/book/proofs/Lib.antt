@@ -13,6 +13,7 @@ pub mod KeyCounts
 pub mod Sound
 pub mod Refining
 pub mod Refinement
+pub mod Engines
 pub mod Admission
 -- tickets over every history:
 pub mod Tickets

@@ -1,9 +1,9 @@
--- The refinement: with no call struck or moved, gateway and book give the same answers and bytes, and end alike, by whatever engines; so the engines agree.
+-- The refinement: with no call struck or moved, gateway and book give the same answers and bytes, and end alike, by whatever engines.
 -- Assumes nothing.
 use Prim.Native.Nat.{ℕ}
 use mathlib.Core.Bool.{true}
-use mathlib.Core.Path.{_≡_, refl, sym, _∙_}
-use mathlib.Core.List.{List, [], _∷_, _++_, map, List·Permᴰ·nil, List·Permᴰ·trans, Permᴰ·symm}
+use mathlib.Core.Path.{_≡_, refl}
+use mathlib.Core.List.{List, [], _∷_, _++_, map, List·Permᴰ·nil}
 use Rattle.wire.specs.Search.{filtered}
 use Rattle.wire.proofs.Booleans.{either}
 use Rattle.keylist.specs.Layout.{Configuration, good, bad, parse, Result}
@@ -20,7 +20,7 @@ use Rattle.gateway.specs.Calls.{Call, Done}
 use Rattle.book.specs.Book.{Book, freshBook, bookDoes}
 use Rattle.book.specs.History.{trace, final, gatewayAfter}
 use Rattle.book.specs.Demand3.{bookAfter, RefinementHolds}
-use Rattle.book.specs.Engines.{doesBy, EnginesAgreeHolds}
+use Rattle.book.specs.Engines.{doesBy}
 use Rattle.keys.proofs.Views.{parsed-view, stored-view}
 use Rattle.book.proofs.Sound.{Sound, refused-sound, ready-sound}
 use Rattle.book.proofs.Refining.{Alike, same-answer, same-buffer, alike-kept}
@@ -87,7 +87,7 @@ final-append does s [] later = refl
 final-append does s (call ∷ before) later = final-append does (does s call .state) before later
 
 -- by the fast engine: gateway and book after the same calls
-abbrev fast : Gateway → Call → Engine
+abbrev pub fast : Gateway → Call → Engine
 fast g call = Engine.Fast
 
 pub alike-end : (list : List ℕ) (cap : ℕ) (calls : List Call) → Alike (gatewayAfter list cap calls) (bookAfter list cap calls)
@@ -96,15 +96,8 @@ alike-end = alike-chosen fast
 pub refinement-holds : RefinementHolds
 refinement-holds list cap calls =
     let end = alike-end list cap calls in
-    record { sameAnswers = trace-chosen fast list cap calls; sameRegistry = end .registry; samePending = ∣ end .pending ∣₁ }
-
--- by any choice of engines: both runs are the book's
-pub engines-agree : EnginesAgreeHolds
-engines-agree choice list cap calls =
-    let one = alike-chosen choice list cap calls in
-    let other = alike-end list cap calls in
     record {
-      sameAnswers = trace-chosen choice list cap calls ∙ sym (trace-chosen fast list cap calls);
-      sameRegistry = one .registry ∙ sym (other .registry);
-      samePending = ∣ List·Permᴰ·trans (one .pending) (Permᴰ·symm (other .pending)) ∣₁;
+      sameAnswers = trace-chosen fast list cap calls;
+      sameRegistry = end .registry;
+      samePending = ∣ end .pending ∣₁;
     }
