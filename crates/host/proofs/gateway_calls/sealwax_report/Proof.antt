@@ -1,5 +1,5 @@
 -- `host::gateway_calls::sealwax_report` meets its contract: a walk of its MIR, by hand. The reference is handed to `count_pending`; then the last
--- ticket and the keys behind it are copied and handed, with the count, to `gateway_calls::report_of`, whose answer is the result. All that the
+-- ticket and the keys behind it are copied and handed, with the count, to `gateway_calls::report`, whose answer is the result. All that the
 -- proof knows of both is that they meet their contracts.
 -- `Exported`'s law does not cover it: no other export has a `&Gateway`, so a law for these would have one use.
 -- Assumes nothing.
@@ -44,6 +44,7 @@ use Rattle.exchange.proofs.Ticket as ticket
 use Rattle.keys.specs.declared.Keys.{Keys}
 use Rattle.keys.proofs.Keys as keys
 use Rattle.gateway.specs.declared.Gateway.{Gateway}
+use Rattle.gateway.specs.declared.table.Engine.{Engine}
 use Rattle.gateway.specs.Calls.{reporting, ofReport}
 use Rattle.gateway.specs.Gateway.{gatewayDoes}
 use Rattle.gateway.specs.Helpers.{reportFrom}
@@ -52,7 +53,7 @@ use Rattle.gateway.proofs.Gateway as gateway
 use Rattle.results.specs.Calls.{reportResult, Does}
 use Rattle.results.specs.declared.gateway_calls.ReportResult.{ReportResult}
 use Rattle.results.proofs.gateway_calls.ReportResult as result
-use Rattle.results.proofs.gateway_calls.report_of as step
+use Rattle.results.proofs.gateway_calls.report as step
 use Rattle.host.proofs.Elements.{look-in-raw}
 use Rattle.host.proofs.Places.{gateway-values}
 use Rattle.host.proofs.Walking.{given-up, given-up-go, returned, framed, proved}
@@ -62,12 +63,12 @@ use Rattle.host.proofs.gateway_calls.sealwax_report as export
 abbrev stayed : Stays (export.ended .signature .params) (export.ended .kept)
 stayed = given-up (export.ended .signature .params) (export.ended .kept)
 
--- the result that `gateway_calls::report_of` ensures, of a number pending
+-- the result that `gateway_calls::report` ensures, of a number pending
 abbrev told-of : Gateway → ℕ → ReportResult
 told-of g n = reportResult (ofReport (reportFrom (g .«last_ticket») n (g .keys)))
 
 -- with the number that `count_pending` ensures, it is the report's
-reported : (g : Gateway) (n : ℕ) (r : ReportResult) → n ≡ length (pendingIn (g .table)) → r ≡ told-of g n → Does reportResult reporting g g r []
+reported : (g : Gateway) (n : ℕ) (r : ReportResult) → n ≡ length (pendingIn (g .table)) → r ≡ told-of g n → Does Engine.Fast reportResult reporting g g r []
 unfolding gatewayDoes
 reported g n r counted told = (refl, told ∙ ap (told-of g) counted, refl)
 
@@ -107,7 +108,7 @@ module _ {M : Type 1} (𝓤 : URA M) (H : Heap 𝓤) (A : Atoms 𝓤) (W : Given
     goes-count : ent 𝓤 (⋆ 𝓤 H A ((‵ (flft (κs .0) (qs .0)) ⊛ ‵ ftrue) ∷ ‵ all-lent ∷ [])) (Count .pre to-count)
     goes-count = qed W ((‵ (flft (κs .0) (qs .0)) ⊛ ‵ ftrue) ∷ ‵ all-lent ∷ []) ∵ join ! $ frame ! $ done !
 
-    -- the last ticket, the number pending and the keys, handed to `gateway_calls::report_of`
+    -- the last ticket, the number pending and the keys, handed to `gateway_calls::report`
     module _ (n : ℕ) where
       abbrev given : Ticket × (ℕ × (Keys × Unit {0}))
       given = (g .«last_ticket», (n, (g .keys, tt)))
@@ -121,7 +122,7 @@ module _ {M : Type 1} (𝓤 : URA M) (H : Heap 𝓤) (A : Atoms 𝓤) (W : Given
       goes-step : ent 𝓤 (⋆ 𝓤 H A (‵ ftrue ∷ ‵ (owns (ticket.the-row ∷ usize ∷ keys.the-row ∷ []) given passed) ∷ [])) (Step .pre to-step)
       goes-step = qed W (‵ ftrue ∷ ‵ (owns (ticket.the-row ∷ usize ∷ keys.the-row ∷ []) given passed) ∷ []) ∵ join ! $ frame ! $ done !
 
-    exits : (r : ReportResult) (v : Val) → Does reportResult reporting g g r []
+    exits : (r : ReportResult) (v : Val) → Does Engine.Fast reportResult reporting g g r []
         → ent 𝓤 (⋆ 𝓤 H A (‵ (flft (κs .0) (qs .0)) ∷ ‵ (result.the-row .own r (v ∷ [])) ∷ [])) (Ends v)
     exits r v said =
         qed W (‵ (flft (κs .0) (qs .0)) ∷ ‵ (result.the-row .own r (v ∷ [])) ∷ []) ∵
@@ -165,7 +166,7 @@ module _ {M : Type 1} (𝓤 : URA M) (H : Heap 𝓤) (A : Atoms 𝓤) (W : Given
           owned ! usize (Is usize) (uint-makes 𝓤 H A W w64) n _ (refl, is-n .1) $ fjoin ! $
           owned ! ticket.the-row (Is ticket.the-row) ((structs.makes ticket.the-type ticket.Laws.the-plain) 𝓤 H A) (g .«last_ticket») _ (parts .0) $ fjoin ! $ nothing ! $
           use2 W (raw (Step .pre (to-step n))) (goes-step n) $
-          -- [what `gateway_calls::report_of` asks; the token; the locals, from the last]
+          -- [what `gateway_calls::report` asks; the token; the locals, from the last]
           calls-at ! fm Step step-meets (to-step n) (and-then ! (load ! (from ! (stop !)) (look ! 4 refl)) (and-then ! (load ! (from ! (stop !)) (look ! 6 refl))
           (and-then ! (load ! (from ! (stop !)) (look ! 2 refl)) (no-more !)))) (λ w.
           returned ! step.ended (step.clauses 𝓤 H A at-mem run) (to-step n) w (λ r ws. r ≡ told-of g n) tt (λ r ws. id⊢ 𝓤 _) (λ r ws told.
@@ -192,4 +193,4 @@ sealwax-report-spec 𝓤 H 𝓜 𝓖 𝓡 =
     (cited 𝓤 H (Count 𝓤 H (𝓖 .A) W (𝓜 .mem) (𝓡 .run)) 𝓜 𝓡 export.Code.env counting.Symbol.name counting.Symbol.routine
     export.Code.calls-host·pending·count-pending (counting.Met.met 𝓤 H 𝓜 𝓖 𝓡))
     (cited 𝓤 H (Step 𝓤 H (𝓖 .A) W (𝓜 .mem) (𝓡 .run)) 𝓜 𝓡 export.Code.env step.Symbol.name step.Symbol.routine
-    export.Code.calls-results·gateway-calls·report-of (step.Met.met 𝓤 H 𝓜 𝓖 𝓡)))
+    export.Code.calls-results·gateway-calls·report (step.Met.met 𝓤 H 𝓜 𝓖 𝓡)))

@@ -1,7 +1,7 @@
 -- `host::pending::count_pending` meets its contract: a walk of its MIR, by hand. The gateway behind the reference is looked into once, before the
 -- loop. A turn hands the exchange at its place to `gateway::table::number`, and adds what that answers.
 -- Assumes nothing.
-use mathlib.Core.Path.{_≡_, refl, sym, ap}
+use mathlib.Core.Path.{_≡_, refl, ap}
 use Prim.Native.Nat.{ℕ, _<_, _≤_, _^_, _+_, _-_}
 use native.Mathlib.Omega.{arith}
 use native.Mathlib.Nat.{zero-add}
@@ -32,7 +32,6 @@ use sound.WpLaws.{FmC}
 use denote.RattleType.{owns}
 use denote.Laws.{Is, shows}
 use denote.Memory.{lone, cellAt, partAt}
-use denote.Index.{place-is}
 use denote.Plain.{uint-tells, uint-makes, uint-lawful}
 use denote.Builtin.{usize}
 use denote.Ref.{ShrRef, ptr-vals, shr-tells}
@@ -191,7 +190,6 @@ module _ {M : Type 1} (𝓤 : URA M) (H : Heap 𝓤) (A : Atoms 𝓤) (W : Given
             (init ! 9 refl (tt, record { fits = offset-fits g lies (i .0) below })) $
             assigns ! (addr ! (from ! (hop ! (look ! 19 refl) (fld ! refl (stop !))))) (from ! (stop !)) (init ! 7 refl (tt, tt)) $
             assigns ! (bin ! (load ! (from ! (stop !)) (look ! 7 refl)) (load ! (from ! (stop !)) (look ! 9 refl)) tt) (from ! (stop !)) (init ! 5 refl (tt, tt)) $
-            rewrite ! 5 (λ (p : ℕ). ‵ (fat fullShare tyPtr l₈ 0 (vptr b p))) (sym (place-is 24 (o + 1232) (i .0))) refl $
             assigns ! (of-opd ! (load ! (from ! (hop ! (look ! 5 refl) (stop !))) (look-in-raw ! 0 (exchange-at g lies (i .0) below !)))) (from ! (stop !))
             (init ! 3 refl (structs.lawful exchange.the-type exchange.Laws.the-laws 𝓤 H A W .typed (exchange-in g (i .0)) _ (is-exchange g lies (i .0) below) .0)) $
             owned ! exchange.the-row (Is exchange.the-row) ((structs.makes exchange.the-type exchange.Laws.the-plain) 𝓤 H A) (exchange-in g (i .0)) _ (is-exchange g lies (i .0) below) $
