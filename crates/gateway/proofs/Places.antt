@@ -18,7 +18,7 @@ use Rattle.exchange.specs.Exchange.{free, isFree, hasTicket}
 use Rattle.exchange.specs.Moved.{ofTicket}
 use Rattle.gateway.specs.declared.table.Engine.{Engine}
 use Rattle.gateway.specs.Gateway.{home, placeBy, placeOfTicket, pendingWith}
-use Rattle.gateway.specs.Helpers.{hasNumber, inside}
+use Rattle.gateway.specs.Helpers.{hasNumber, takesHome, inside}
 use Rattle.gateway.specs.View.{pendingIn}
 use Rattle.gateway.specs.Registry.{tableSize}
 
@@ -33,13 +33,25 @@ module _ (ticket : ℕ) (passes : Exchange → Bool) (table : List Exchange) whe
   home-passes : at-home ≡ true → passes (getD table (home ticket) free) ≡ true
   home-passes here = and-right (ltb (home ticket) (length table)) (passes (getD table (home ticket) free)) here
 
-  pub found-at-home : home ticket < length table → passes (getD table (home ticket) free) ≡ true → home ticket ≡ placeBy Engine.Fast ticket passes table
+  found-at-home : home ticket < length table → passes (getD table (home ticket) free) ≡ true → home ticket ≡ placeBy Engine.Fast ticket passes table
   unfolding placeBy
   found-at-home there here = rw (lt-ltb (home ticket) (length table) there, here) refl
 
-  pub not-at-home : passes (getD table (home ticket) free) ≡ false → firstPlace passes table ≡ placeBy Engine.Fast ticket passes table
+  not-at-home : passes (getD table (home ticket) free) ≡ false → firstPlace passes table ≡ placeBy Engine.Fast ticket passes table
   unfolding placeBy
   not-at-home none = rw (and-false (ltb (home ticket) (length table)) (passes (getD table (home ticket) free)) none) refl
+
+-- what an engine finds where it takes the home, and where it walks
+pub home-taken : (engine : Engine) (near number : ℕ) (table : List Exchange) → length table ≡ tableSize
+    → takesHome engine (getD table (home near) free .ticket .0) number ≡ true → home near ≡ placeBy engine near (hasNumber number) table
+home-taken Engine.Fast near number table size here = found-at-home near (hasNumber number) table (omega (arith, size)) here
+home-taken Engine.Plain near number table size here = absurd (true-or-false here refl)
+
+pub home-passed : (engine : Engine) (near number : ℕ) (table : List Exchange)
+    → takesHome engine (getD table (home near) free .ticket .0) number ≡ false → firstPlace (hasNumber number) table ≡ placeBy engine near (hasNumber number) table
+unfolding placeBy
+home-passed Engine.Fast near number table other = not-at-home near (hasNumber number) table other
+home-passed Engine.Plain near number table other = refl
 
 -- whether some exchange passes is whether a place is found
 pub found-any : (engine : Engine) (ticket : ℕ) (passes : Exchange → Bool) (table : List Exchange)

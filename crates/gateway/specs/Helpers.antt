@@ -1,6 +1,6 @@
 -- What only the contracts of functions below the entries cite: a reader of the rules can skip this file.
 use Prim.Native.Nat.{ℕ, zero, suc}
-use mathlib.Core.Bool.{Bool, not}
+use mathlib.Core.Bool.{Bool, false, not}
 use mathlib.Core.List.{List}
 use lib.Dec.{eqb, ltb}
 use lib.ListN.{length}
@@ -17,6 +17,7 @@ use Rattle.keys.specs.Helpers.{given, keyRefusal}
 use Rattle.exchange.specs.declared.Ticket.{Ticket}
 use Rattle.keys.specs.declared.Keys.{Keys}
 use Rattle.gateway.specs.declared.Report.{Report}
+use Rattle.gateway.specs.declared.table.Engine.{Engine}
 use Rattle.gateway.specs.declared.change.Change.{Change}
 use Rattle.gateway.specs.Registry.{tableSize, report}
 
@@ -60,6 +61,11 @@ admittedChange request was =
 -- the exchange's ticket is this number, which is 0 in a free place
 abbrev pub hasNumber : ℕ → Exchange → Bool
 hasNumber number e = eqb (e .ticket .0) number
+
+-- an engine takes the home, of the ticket there and the number that is searched
+abbrev pub takesHome : Engine → ℕ → ℕ → Bool
+takesHome Engine.Fast there number = eqb there number
+takesHome Engine.Plain there number = false
 
 -- a place that a search found, the first one where it found none
 abbrev pub inside : ℕ → ℕ

@@ -3,10 +3,9 @@ ghost use mathlib.Core.Path.{_≡_};
 ghost use mathlib.Core.List.{[], _∷_};
 ghost use Prim.Native.Nat.{_≤_, _<_};
 ghost use lib.ListN.{length, getD};
-ghost use Rattle.wire.specs.Search.{firstPlace};
 ghost use Rattle.exchange.specs.Exchange.{free};
 ghost use Rattle.gateway.specs.Gateway.{placeBy};
-ghost use Rattle.gateway.specs.Helpers.{hasNumber, inside};
+ghost use Rattle.gateway.specs.Helpers.{hasNumber, takesHome, inside};
 ghost use Rattle.gateway.specs.View.{pendingIn};
 ghost use Rattle.gateway.specs.Registry.{tableSize};
 use exchange::Exchange;
@@ -27,17 +26,50 @@ pub(crate) struct Found {
     pub exchange: Exchange,
 }
 
+impl Engine {
+    // The engine takes the home, of the ticket there and the number that is searched. The plain one never does.
+    fn takes_home(self, there: u64, number: u64) -> bool
+        ensures { λ r. ⌜ r ≡ takesHome self there number ⌝ }
+    {
+        match self {
+            Engine::Fast => there == number,
+            Engine::Plain => false,
+        }
+    }
+}
+
 // What an engine finds, near a ticket's home, of the exchanges whose ticket is a number, which is 0 in a free place; the first place and what is
-// there where it finds none.
-pub(crate) fn find(table: [Exchange; TABLE_SIZE], engine: Engine, number: u64, near: u64) -> Found
+// there where it finds none. It is one function, since each that takes the table may copy it.
+pub(crate) fn find(
+    table: [Exchange; TABLE_SIZE],
+    engine: Engine,
+    number: u64,
+    near: u64,
+) -> Found
     ensures place { λ r. ⌜ r .place ≡ inside (placeBy engine near (hasNumber number) table) ⌝ }
     ensures exchange { λ r. ⌜ r .exchange ≡ getD table (r .place) free ⌝ }
     ensures below { λ r. ⌜ r .place < tableSize ⌝ }
 {
-    let place = inside(place_by(table, engine, number, near));
+    let home = (near % 128) as usize;
+    if engine.takes_home(table[home].ticket.0, number) {
+        return Found {
+            place: home,
+            exchange: table[home],
+        };
+    }
+    let mut at = 0;
+    while at < TABLE_SIZE {
+        if table[at].ticket.0 == number {
+            return Found {
+                place: at,
+                exchange: table[at],
+            };
+        }
+        at += 1;
+    }
     Found {
-        place,
-        exchange: table[place],
+        place: 0,
+        exchange: table[0],
     }
 }
 
@@ -47,40 +79,6 @@ pub fn inside(place: usize) -> usize
     ensures below { λ r. ⌜ r < tableSize ⌝ }
 {
     if place < TABLE_SIZE { place } else { 0 }
-}
-
-// The same, with the table's size where none is found.
-fn place_by(table: [Exchange; TABLE_SIZE], engine: Engine, number: u64, near: u64) -> usize
-    ensures { λ r. ⌜ r ≡ placeBy engine near (hasNumber number) table ⌝ }
-{
-    match engine {
-        Engine::Fast => place_near(table, number, near),
-        Engine::Plain => first_with(table, number),
-    }
-}
-
-fn place_near(table: [Exchange; TABLE_SIZE], number: u64, near: u64) -> usize
-    ensures { λ r. ⌜ r ≡ placeBy Engine.Fast near (hasNumber number) table ⌝ }
-{
-    let home = (near % 128) as usize;
-    if table[home].ticket.0 == number {
-        return home;
-    }
-    first_with(table, number)
-}
-
-// A walk over the table.
-fn first_with(table: [Exchange; TABLE_SIZE], number: u64) -> usize
-    ensures { λ r. ⌜ r ≡ firstPlace (hasNumber number) table ⌝ }
-{
-    let mut at = 0;
-    while at < TABLE_SIZE {
-        if table[at].ticket.0 == number {
-            return at;
-        }
-        at += 1;
-    }
-    at
 }
 
 // The number of pending exchanges.
