@@ -9,6 +9,7 @@ use native.Mathlib.Omega.{arith}
 use lib.ListN.{length, getD, take, set, replicate, length-append, length-map, length-take, List·getD-map}
 use lib.Seq.{set-at, getD-take, take-append-seam, take-nil}
 use Rattle.wire.specs.Search.{firstPlace, anyPasses}
+use Rattle.wire.proofs.Booleans.{either}
 use Rattle.wire.proofs.Matches.{first-at, first-none, any-at, any-none}
 use Rattle.keys.specs.Keys.{padded}
 
@@ -49,6 +50,15 @@ module _ {A B : Type 0} (view : A → B) where
   pub map-append : (xs ys : List A) → map view (xs ++ ys) ≡ map view xs ++ map view ys
   map-append [] ys = refl
   map-append (x ∷ xs) ys = ap (λ (zs : List B). view x ∷ zs) (map-append xs ys)
+
+  -- the search among those that count, by the search among all
+  pub first-stored : (test : B → Bool) (count : ℕ) (list : List A)
+      → firstPlace test (map view (take count list)) ≡ min count (firstPlace (λ x. test (view x)) list)
+  unfolding firstPlace
+  first-stored test zero list = omega arith
+  first-stored test (suc count) [] = omega arith
+  first-stored test (suc count) (x ∷ list) =
+      either (test (view x)) (λ e. rw e (omega arith)) (λ e. rw e (ap suc (first-stored test count list) ∙ omega arith))
 
   module _ (count : ℕ) (list : List A) where
     pub length-stored : length (map view (take count list)) ≡ min count (length list)

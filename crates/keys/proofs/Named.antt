@@ -4,8 +4,9 @@ use mathlib.Core.Path.{_≡_, refl, sym, ap, _∙_}
 use mathlib.Core.Bool.{true, not}
 use mathlib.Core.List.{List, [], _∷_}
 use mathlib.Core.Option.{Option}
-use Prim.Native.Nat.{ℕ}
-use borrow.Author.Tests.{leb-true, leb-false, le-leb, lt-leb, ltb-true, ltb-false}
+use Prim.Native.Nat.{ℕ, _≤_, _<_, min}
+use native.Mathlib.Omega.{arith}
+use borrow.Author.Tests.{leb-true, leb-false, le-leb, lt-leb, ltb-true, ltb-false, le-ltb}
 use lib.Dec.{eqb, leb, ltb}
 use lib.ListN.{length, getD, set}
 use Rattle.wire.specs.Search.{firstPlace, isNone, isSomeAnd}
@@ -16,9 +17,10 @@ use Rattle.request.specs.declared.Request.{Request}
 use Rattle.keys.specs.declared.Keys.{Keys}
 use Rattle.keys.specs.declared.KeyState.{KeyState}
 use Rattle.keys.specs.Keys.{Key, hasId, keyWith, offers, retireRefusal, withKey, keyOf, keysOf}
-use Rattle.keys.specs.Helpers.{noKey, keyAt, keyRefusal, retireRefusalAt, given, foundKey}
+use Rattle.keys.specs.Helpers.{noKey, keyAt, keyRefusal, retireRefusalAt, given, foundKey, hasKeyId, keyPlaceAt}
 use Rattle.keys.specs.Stored.{placeOfKey}
-use Rattle.keys.proofs.Stored.{unread, key-at}
+use Rattle.keys.proofs.Arrays.{first-stored}
+use Rattle.keys.proofs.Stored.{unread, length-keys, key-at}
 
 -- the keys with the one at a place changed
 abbrev pub changedAt : (Key → Key) → ℕ → List Key → List Key
@@ -60,6 +62,20 @@ module _ (id : ℕ) (keys : List Key) where
 module _ (keys : Keys) (whole : length (keys .list) ≡ 16) (id : ℕ) where
   abbrev found : KeyState
   found = getD (keys .list) (foundKey id (keysOf keys) .place) unread
+
+  -- it is found among all of the array, by the number of keys
+  pub found-in-array : keyPlaceAt (firstPlace (hasKeyId id) (keys .list)) (keys .count) ≡ foundKey id (keysOf keys)
+  unfolding keysOf
+  found-in-array =
+      let place = firstPlace (hasKeyId id) (keys .list) in
+      let number = min (keys .count) 16 in
+      let among : placeOfKey id (keysOf keys) ≡ min (keys .count) place = first-stored keyOf (hasId id) (keys .count) (keys .list) in
+      rw (among, length-keys keys whole)
+      (either (ltb place number)
+      (λ e. let l : place < number = ltb-true place number e in
+      let same : min (keys .count) place ≡ place = omega arith in rw (same, e))
+      (λ e. let l : number ≤ place = ltb-false place number e in
+      let out : number ≤ min (keys .count) place = omega arith in rw (e, le-ltb (min (keys .count) place) number out)))
 
   -- whether there is one, and the key
   told : (leb (length (given (foundKey id (keysOf keys) .there) (keyOf found))) 0 ≡ leb (length (keysOf keys)) (placeOfKey id (keysOf keys)))
