@@ -8,4 +8,5 @@ pub mod Handing
 pub mod Locals
 pub mod Parameters
 pub mod Places
+pub mod Searches
 pub mod Walking
