@@ -57,15 +57,15 @@ pub(crate) fn find(
             exchange: table[home],
         };
     }
-    let mut at = 0;
-    while at < TABLE_SIZE {
-        if table[at].ticket.0 == number {
+    let mut place = 0;
+    while place < TABLE_SIZE {
+        if table[place].ticket.0 == number {
             return Found {
-                place: at,
-                exchange: table[at],
+                place,
+                exchange: table[place],
             };
         }
-        at += 1;
+        place += 1;
     }
     Found {
         place: 0,

@@ -20,10 +20,10 @@ use Rattle.gateway.proofs.table.find.Statement.{statement}
 use Rattle.gateway.proofs.table.find.Tie as tie
 
 abbrev Inv-loop : tie.InvT-loop
-Inv-loop number near table home at₀ at = (at ≤ tableSize) × ((j : ℕ) → j < at → hasNumber number (getD table j free) ≡ false)
+Inv-loop number near table home place₀ place = (place ≤ tableSize) × ((j : ℕ) → j < place → hasNumber number (getD table j free) ≡ false)
 
 abbrev μ-loop : tie.MeasureT-loop
-μ-loop number near table home at₀ at = tableSize - at
+μ-loop number near table home place₀ place = tableSize - place
 
 -- where the engine walks, the first is what it finds
 walked : (c : tie.Else1 Inv-loop μ-loop)
@@ -51,9 +51,9 @@ returns-2 c =
     let l = here .loop in
     let a = here .before .before .before .args in
     let size : length (a .t1) ≡ tableSize = search needs in
-    let first = first-at free (hasNumber (a .number)) (a .t1) (l .at) (omega (arith, size)) (l .inv .1) (eq-eqb _ _ (c .before .if2 .taken)) in
-    let below : l .at < tableSize = omega arith in
-    (rw (← walked (here .before), first, lt-ltb (l .at) tableSize below) refl, (refl, below))
+    let first = first-at free (hasNumber (a .number)) (a .t1) (l .place) (omega (arith, size)) (l .inv .1) (eq-eqb _ _ (c .before .if2 .taken)) in
+    let below : l .place < tableSize = omega arith in
+    (rw (← walked (here .before), first, lt-ltb (l .place) tableSize below) refl, (refl, below))
 
 loop-again : tie.Need-loop-again Inv-loop μ-loop
 loop-again c = (omega arith, below-more _ _ (c .before .before .loop .inv .1) (ne-eqb _ _ (c .if2 .left)))
