@@ -116,6 +116,18 @@ static void steps(void) {
     EXPECT(sealwax_retire(&gateway, 7).number == SEALWAX_KEY_RETIRED && admit(55).outcome.number == SEALWAX_KEY_RETIRED);
 }
 
+/* Both searches find a ticket at its home, or where its home is taken at the first place that was free, and no ticket that is not pending. */
+static void searches(void) {
+    fresh(1000);
+    for (uint64_t ticket = 1; ticket <= 128; ticket++) {
+        EXPECT(admit(55).ticket == ticket);
+        EXPECT(sealwax_find(&gateway, ticket, ticket) == ticket % 128 && sealwax_plain_find(&gateway, ticket) == ticket % 128);
+    }
+    EXPECT(sealwax_abandon(&gateway, 64).number == 0 && admit(55).ticket == 129);
+    EXPECT(sealwax_find(&gateway, 129, 129) == 64 && sealwax_plain_find(&gateway, 129) == 64);
+    EXPECT(sealwax_find(&gateway, 64, 64) == 128 && sealwax_plain_find(&gateway, UINT64_MAX) == 128);
+}
+
 /* A gateway is a value: a copy goes its own way. Refused calls leave counts, tickets and every exchange as they were. */
 static void memory(void) {
     fresh(1000);
@@ -191,6 +203,7 @@ int main(void) {
     setups();
     admissions();
     steps();
+    searches();
     memory();
     clients();
     longest_list();

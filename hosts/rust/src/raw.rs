@@ -223,7 +223,6 @@ extern "C" {
     pub fn sealwax_abandon(gateway: *mut Gateway, ticket: u64) -> Outcome;
     pub fn sealwax_retire(gateway: *mut Gateway, key_id: u8) -> Outcome;
     pub fn sealwax_report(gateway: *const Gateway) -> ReportResult;
-    // These two are for measuring what a search alone costs.
     #[allow(dead_code)]
     pub fn sealwax_plain_find(gateway: *mut Gateway, ticket: u64) -> usize;
     #[allow(dead_code)]
@@ -338,6 +337,19 @@ pub fn retire(gateway: &mut Gateway, key_id: u8) -> Outcome {
 pub fn report(gateway: &Gateway) -> ReportResult {
     // SAFETY: setup made the gateway; nothing writes it, and no other thread has it meanwhile.
     unsafe { sealwax_report(gateway) }
+}
+
+/// The search alone, for tests and for measuring what it costs: the walk, and by home.
+#[allow(dead_code)]
+pub fn plain_find(gateway: &mut Gateway, ticket: u64) -> usize {
+    // SAFETY: setup made the gateway, and no other thread has it meanwhile.
+    unsafe { sealwax_plain_find(gateway, ticket) }
+}
+
+#[allow(dead_code)]
+pub fn find(gateway: &mut Gateway, ticket: u64, near: u64) -> usize {
+    // SAFETY: setup made the gateway, and no other thread has it meanwhile.
+    unsafe { sealwax_find(gateway, ticket, near) }
 }
 
 pub fn check(list: &[u8]) -> CheckResult {

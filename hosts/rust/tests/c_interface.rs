@@ -21,6 +21,9 @@ use sealwax as _;
 use std::collections::{BTreeMap, BTreeSet};
 use std::mem::size_of;
 
+/// The places of a gateway's table.
+const PLACES: usize = 128;
+
 /// A buffer that is lent, with bytes around it that nobody may write.
 struct Lent {
     memory: Vec<u8>,
@@ -124,6 +127,7 @@ impl Both {
             _ => without_gateway(call),
         };
         self.same_report();
+        self.same_places();
         outcome.number
     }
 
@@ -228,6 +232,23 @@ impl Both {
                     retired: u8::from(key.retired),
                 });
             assert_eq!(*key, expected, "key {place} of the report");
+        }
+    }
+}
+
+impl Both {
+    /// Both searches find each pending ticket at one place, at most 128 in all, and no other ticket.
+    fn same_places(&mut self) {
+        let last = self.reference.report().last_ticket;
+        let mut taken = BTreeSet::new();
+        for ticket in self.reference.pending.keys() {
+            let place = raw::find(&mut self.library, *ticket, *ticket);
+            assert_eq!(raw::plain_find(&mut self.library, *ticket), place);
+            assert!(place < PLACES && taken.insert(place), "ticket {ticket}");
+        }
+        for ticket in [last + 1, u64::MAX] {
+            assert_eq!(raw::find(&mut self.library, ticket, ticket), PLACES);
+            assert_eq!(raw::plain_find(&mut self.library, ticket), PLACES);
         }
     }
 }
