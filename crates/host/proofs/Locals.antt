@@ -170,3 +170,10 @@ module _ {M : Type 1} {𝓤 : URA M} {H : Heap 𝓤} {A : Atoms 𝓤} {K : Type 
         prf = via 𝓤 _ (under 𝓤 H A W i (j ∷ k ∷ before) (j ∷ k ∷ after) (under 𝓤 H A W j (k ∷ before) (k ∷ after)
             (under 𝓤 H A W k before after (gathers 𝓤 H A W E cs Δ)))) (freed .prf);
       })
+
+  -- the same with one entry kept
+  pub frees-behind : K → {E : Env 𝓤 H} (cs : List Content) (Δ : List (Item 𝓤)) {i : Item 𝓤} {g : Goal 𝓤 H}
+      → Step K W (i ∷ []) g (i ∷ from-last 𝓤 H E cs Δ) (frees E g)
+  frees-behind t {E} cs Δ {i} {g} = step (λ s.
+      let freed : Seq K W (i ∷ all-rooms 𝓤 H E ∷ Δ) (frees E g) = move t (1 ∷ []) $ free-rooms t E $ keep t (0 ∷ []) $ s in
+      record { prf = via 𝓤 _ (under 𝓤 H A W i (from-last 𝓤 H E cs Δ) (all-rooms 𝓤 H E ∷ Δ) (gathers 𝓤 H A W E cs Δ)) (freed .prf) })

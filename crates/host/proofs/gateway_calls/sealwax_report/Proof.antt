@@ -21,8 +21,8 @@ use contract.Lifetimes.{Lfts, Shares}
 use contract.Monad.{Fun}
 use contract.Running.{givenOf, tables}
 use types.Kit.{Given, ‵, raw, _⊛_, ⋆, _$_, _∵_, !, qed, by, done, move, keep, drop, use1, use2, split, join, fsplit, fsplit3, fjoin, rewrite, suffices, frame}
-use types.Run.{look, init, forget, stop, hop, fld, from, load, of-opd, and-then, no-more, assigns, land, returns}
-use types.Run.{enter, alloc1, alloc0, params1, pass1, pass0, free1, free0}
+use types.Run.{look, init, stop, hop, fld, from, load, of-opd, and-then, no-more, assigns, land, returns}
+use types.Run.{enter, alloc1, alloc0, params1, pass1, pass0}
 use types.Part.{whole, sub}
 use sound.WpLaws.{FmC}
 use denote.RattleType.{owns}
@@ -30,8 +30,7 @@ use denote.Laws.{Is, shows}
 use denote.Builtin.{usize}
 use denote.Plain.{uint-tells, uint-makes, uint-lawful}
 use denote.Ref.{ShrRef, ptr-vals, shr-tells, shr-copy}
-use denote.Steps.{only, looks, shuts, owned, peeks, nothing}
-use denote.Struct.Steps.{spelt}
+use denote.Steps.{only, shuts, owned, peeks, nothing}
 use denote.Struct.Laws as structs
 use denote.Triple.Statement.{Contract, Triple}
 use denote.Triple.Call.{calls-at}
@@ -55,7 +54,8 @@ use Rattle.results.specs.declared.gateway_calls.ReportResult.{ReportResult}
 use Rattle.results.proofs.gateway_calls.ReportResult as result
 use Rattle.results.proofs.gateway_calls.report as step
 use Rattle.host.proofs.Elements.{look-in-raw}
-use Rattle.host.proofs.Places.{gateway-values}
+use Rattle.host.proofs.Locals.{has, frees-locals}
+use Rattle.host.proofs.Places.{gateway-values, looks-gateway}
 use Rattle.host.proofs.Walking.{given-up, given-up-go, returned, framed, proved}
 use Rattle.host.proofs.pending.count_pending as counting
 use Rattle.host.proofs.gateway_calls.sealwax_report as export
@@ -149,13 +149,9 @@ module _ {M : Type 1} (𝓤 : URA M) (H : Heap 𝓤) (A : Atoms 𝓤) (W : Given
           rewrite ! 7 (λ (u : Val). ‵ (fat fullShare (tyInt w64) b-pending 0 u)) (ap only (uint-tells w64 n _ is-n)) refl $
           drop ! $ use1 W (‵ (flft (κs .0) (qs .0)) ⊛ ‵ ftrue) (id⊢ 𝓤 _) $ split ! $ move ! (14 ∷ 0 ∷ []) $
           -- [the fractured borrow; the token; …]
-          looks ! tt gateway.the-row (Is gateway.the-row) (shows 𝓤 H A gateway.the-row) gateway-values
-          (structs.tells gateway.the-type gateway.Laws.the-laws) ((structs.copy gateway.the-type gateway.Laws.the-copy) 𝓤 H A W) g b o (λ q us.
-          spelt ! gateway.the-row (Is gateway.the-row) (shows 𝓤 H A gateway.the-row) gateway-values
-          (structs.tells gateway.the-type gateway.Laws.the-laws) q g us b o $
-          move ! (1 ∷ []) $ peeks ! gateway.the-row (Is gateway.the-row) (shows 𝓤 H A gateway.the-row) g (gateway-values g) (λ lies.
+          looks-gateway ! tt g b o (λ q lies.
           let parts = structs.owed gateway.the-type gateway.Laws.the-laws g (gateway-values g) lies in
-          keep ! (1 ∷ 0 ∷ 2 ∷ 6 ∷ 7 ∷ 8 ∷ 9 ∷ 10 ∷ 11 ∷ 12 ∷ 13 ∷ 14 ∷ 15 ∷ []) $
+          keep ! (0 ∷ 1 ∷ 2 ∷ 5 ∷ 6 ∷ 7 ∷ 8 ∷ 9 ∷ 10 ∷ 11 ∷ 12 ∷ 13 ∷ 14 ∷ []) $
           -- [a share of the gateway's cell; what a gateway owns; what shuts it; the locals, from the last]
           assigns ! (of-opd ! (load ! (from ! (hop ! (look ! 9 refl) (fld ! refl (stop !)))) (look-in-raw ! 0 (sub ! 0 refl (whole !))))) (from ! (stop !))
           (init ! 5 refl (structs.lawful ticket.the-type ticket.Laws.the-laws 𝓤 H A W .typed (g .«last_ticket») _ (parts .0) .0)) $
@@ -172,9 +168,8 @@ module _ {M : Type 1} (𝓤 : URA M) (H : Heap 𝓤) (A : Atoms 𝓤) (W : Given
           returned ! step.ended (step.clauses 𝓤 H A at-mem run) (to-step n) w (λ r ws. r ≡ told-of g n) tt (λ r ws. id⊢ 𝓤 _) (λ r ws told.
           peeks ! result.the-row (Is result.the-row) (shows 𝓤 H A result.the-row) r (w ∷ []) (λ is.
           land ! (from ! (stop !)) (init ! 12 refl (structs.lawful result.the-type result.Laws.the-laws 𝓤 H A W .typed r _ is .0)) $
-          returns ! (look ! 12 refl) $ forget ! 4 refl $ forget ! 6 refl $ forget ! 8 refl $ forget ! 10 refl $ forget ! 12 refl $
-          move ! (12 ∷ 13 ∷ []) $ free1 ! $ move ! (10 ∷ 11 ∷ []) $ free1 ! $ move ! (8 ∷ 9 ∷ []) $ free1 ! $ move ! (6 ∷ 7 ∷ []) $ free1 ! $
-          move ! (4 ∷ 5 ∷ []) $ free1 ! $ free0 ! $ keep ! (3 ∷ 0 ∷ []) $ by ! (exits r w (reported g n r counted told)))))))))))))))
+          returns ! (look ! 12 refl) $ move ! (1 ∷ []) $ drop ! $ frees-locals ! (has _ ∷ has _ ∷ has _ ∷ has _ ∷ has _ ∷ []) _ $ keep ! (2 ∷ 0 ∷ []) $
+          by ! (exits r w (reported g n r counted told))))))))))))))
 
   walks : (Cs : Calls 𝓤 H) (Λ : Loops 𝓤 H) → FmC 𝓤 H (W .laws) Cs → Triple 𝓤 (Cs counting.Symbol.name) Count → Triple 𝓤 (Cs step.Symbol.name) Step
       → Walks 𝓤 H A export.ended stayed (WpFn 𝓤 H Cs Λ export.Code.function) (export.clauses 𝓤 H A at-mem run)
