@@ -12,7 +12,8 @@ use Rattle.keys.specs.Helpers.{noKey, keyAt}
 use Rattle.keys.specs.Stored.{placeOfKey}
 use Rattle.gateway.specs.declared.Gateway.{Gateway}
 use Rattle.gateway.specs.declared.table.Engine.{Engine}
-use Rattle.gateway.specs.Gateway.{freePlace, nextTicket, gatewayDoes, gatewayAdmitNumber}
+use Rattle.gateway.specs.Engines.{freePlace}
+use Rattle.gateway.specs.Gateway.{nextTicket, gatewayDoes, gatewayAdmitNumber}
 use Rattle.gateway.specs.View.{registryOf, isFull}
 use Rattle.gateway.specs.Calls.{admit, number}
 use Rattle.book.specs.Book.{Book}

@@ -28,7 +28,8 @@ use Rattle.keys.specs.Helpers.{noKey, keyAt, keyRefusal}
 use Rattle.keylist.specs.Layout.{isPair}
 use Rattle.gateway.specs.declared.Gateway.{Gateway}
 use Rattle.gateway.specs.declared.table.Engine.{Engine}
-use Rattle.gateway.specs.Gateway.{freePlace, gatewayAdmitNumber}
+use Rattle.gateway.specs.Engines.{freePlace}
+use Rattle.gateway.specs.Gateway.{gatewayAdmitNumber}
 use Rattle.gateway.specs.View.{registryOf, isFull}
 use Rattle.gateway.proofs.Deciding.{none-of-both, both-none, admit-order}
 use Rattle.book.specs.OneCall.{IsElement, Admissible}

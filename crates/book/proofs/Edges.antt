@@ -13,7 +13,8 @@ use Rattle.exchange.specs.Steps.{refusalBy, stepNumber}
 use Rattle.keys.specs.Stored.{storedKeys}
 use Rattle.keys.specs.Keys.{keysOf, retireRefusal, withKey}
 use Rattle.gateway.specs.Registry.{admitRefusal}
-use Rattle.gateway.specs.Gateway.{placeBy, gatewayDoes}
+use Rattle.gateway.specs.Engines.{placeBy}
+use Rattle.gateway.specs.Gateway.{gatewayDoes}
 use Rattle.gateway.specs.Calls.{number}
 use Rattle.book.specs.History.{trace, final, ticketsOf}
 use Rattle.book.specs.Counts.{ticketsGiven}

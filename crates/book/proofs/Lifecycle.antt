@@ -18,7 +18,8 @@ use Rattle.exchange.proofs.Moves.{next-not-asked, closed-free}
 use Rattle.exchange.proofs.Steps.{accepted-pending, free-refuses, not-asked-silent}
 use Rattle.gateway.specs.declared.Gateway.{Gateway}
 use Rattle.gateway.specs.declared.table.Engine.{Engine}
-use Rattle.gateway.specs.Gateway.{freshGateway, gatewayDoes, pendingWith}
+use Rattle.gateway.specs.Engines.{pendingWith}
+use Rattle.gateway.specs.Gateway.{freshGateway, gatewayDoes}
 use Rattle.gateway.specs.Calls.{Call, onTicket, number, unprotectedStatus}
 use Rattle.book.specs.Book.{Book, freshBook, bookDoes, bookStepNumber}
 use Rattle.book.specs.History.{final, gatewayAfter, Accepts}

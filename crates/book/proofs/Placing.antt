@@ -9,7 +9,7 @@ use lib.ListN.{length, getD}
 use Rattle.exchange.specs.declared.Exchange.{Exchange}
 use Rattle.exchange.specs.Exchange.{free, isFree}
 use Rattle.gateway.specs.declared.table.Engine.{Engine}
-use Rattle.gateway.specs.Gateway.{freePlace}
+use Rattle.gateway.specs.Engines.{freePlace}
 use Rattle.gateway.specs.View.{isFull}
 use Rattle.gateway.proofs.Places.{found-any, found-passes}
 

@@ -6,7 +6,8 @@ use Prim.Native.Nat.{ℕ, zero, suc}
 use Rattle.wire.specs.Refusals.{unlessRefused}
 use Rattle.exchange.proofs.Steps.{step-unprotected}
 use Rattle.gateway.specs.Registry.{statusOf, admitAnswer}
-use Rattle.gateway.specs.Gateway.{pendingWith, nextTicket, gatewayDoes, gatewayAdmitNumber}
+use Rattle.gateway.specs.Engines.{pendingWith}
+use Rattle.gateway.specs.Gateway.{nextTicket, gatewayDoes, gatewayAdmitNumber}
 use Rattle.gateway.specs.Calls.{admit, retire, onTicket, reporting, ofAdmit, unprotectedStatus}
 use Rattle.book.specs.OneCall.{UnprotectedExactly}
 

@@ -17,7 +17,8 @@ use Rattle.keys.specs.Keys.{keysOf, withUse, withRetirement}
 use Rattle.gateway.specs.declared.Gateway.{Gateway}
 use Rattle.gateway.specs.declared.table.Engine.{Engine}
 use Rattle.gateway.specs.Registry.{Registry, tableSize}
-use Rattle.gateway.specs.Gateway.{freePlace, placeOfTicket, pendingWith, nextTicket, gatewayAdmitted, gatewayRetired, gatewayStepped, gatewayDoes, gatewayAdmitNumber, gatewayRetireNumber, gatewayStepNumber}
+use Rattle.gateway.specs.Engines.{freePlace, placeOfTicket, pendingWith}
+use Rattle.gateway.specs.Gateway.{nextTicket, gatewayAdmitted, gatewayRetired, gatewayStepped, gatewayDoes, gatewayAdmitNumber, gatewayRetireNumber, gatewayStepNumber}
 use Rattle.gateway.specs.View.{registryOf, pendingIn, isFull}
 use Rattle.gateway.specs.Calls.{Call, admit, retire, onTicket, reporting}
 use Rattle.book.specs.Book.{Book, bookStepped, bookDoes, bookAdmitted, bookRetired, bookAdmitNumber, bookRetireNumber, bookStepNumber}

@@ -15,7 +15,8 @@ use Rattle.gateway.specs.declared.Gateway.{Gateway}
 use Rattle.gateway.specs.declared.table.Engine.{Engine}
 use Rattle.gateway.specs.Registry.{tableSize, setup}
 use Rattle.gateway.specs.View.{registryOf, pendingIn}
-use Rattle.gateway.specs.Gateway.{gatewayFrom, pendingWith, nextTicket, gatewayDoes, gatewayAdmitNumber, gatewayRetireNumber}
+use Rattle.gateway.specs.Engines.{pendingWith}
+use Rattle.gateway.specs.Gateway.{gatewayFrom, nextTicket, gatewayDoes, gatewayAdmitNumber, gatewayRetireNumber}
 use Rattle.gateway.specs.Calls.{Call, admit, retire, onTicket, reporting, number}
 use Rattle.book.specs.OneCall.{lent, RefusalChangesNothing}
 use Rattle.book.proofs.Numbers.{admit-number, retire-number, step-number}

@@ -16,7 +16,8 @@ use Rattle.exchange.specs.Exchange.{free, isFree}
 use Rattle.exchange.specs.Steps.{Step, next}
 use Rattle.gateway.specs.declared.table.Engine.{Engine}
 use Rattle.gateway.specs.Registry.{tableSize}
-use Rattle.gateway.specs.Gateway.{freshGateway, pendingWith, gatewayDoes}
+use Rattle.gateway.specs.Engines.{pendingWith}
+use Rattle.gateway.specs.Gateway.{freshGateway, gatewayDoes}
 use Rattle.gateway.specs.View.{pendingIn, isFull}
 use Rattle.gateway.specs.Calls.{Call, admit, onTicket}
 use Rattle.book.specs.History.{final, gatewayAfter, Accepts}

@@ -19,7 +19,8 @@ use Rattle.keys.specs.Keys.{Key}
 use Rattle.gateway.specs.declared.Gateway.{Gateway}
 use Rattle.gateway.specs.declared.table.Engine.{Engine}
 use Rattle.gateway.specs.Registry.{setup, admitRefusal, statusOf}
-use Rattle.gateway.specs.Gateway.{pendingWith, freshGateway, gatewayDoes}
+use Rattle.gateway.specs.Engines.{pendingWith}
+use Rattle.gateway.specs.Gateway.{freshGateway, gatewayDoes}
 use Rattle.gateway.specs.View.{registryOf, pendingIn, isFull}
 use Rattle.gateway.specs.Calls.{Call, admit, retire, onTicket, reporting, number, unprotectedStatus}
 use Rattle.book.specs.History.{gatewayAfter, Accepts}

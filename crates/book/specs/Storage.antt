@@ -16,7 +16,8 @@ use Rattle.gateway.specs.declared.Gateway.{Gateway}
 use Rattle.gateway.specs.declared.table.Engine.{Engine}
 use Rattle.gateway.specs.Registry.{tableSize}
 use Rattle.gateway.specs.View.{registryOf, pendingIn, isFull}
-use Rattle.gateway.specs.Gateway.{nextTicket, gatewayDoes, placeOfTicket}
+use Rattle.gateway.specs.Engines.{placeOfTicket}
+use Rattle.gateway.specs.Gateway.{nextTicket, gatewayDoes}
 use Rattle.gateway.specs.Calls.{Call, admit, onTicket, number}
 use Rattle.book.specs.History.{gatewayAfter, Accepts}
 

@@ -35,7 +35,8 @@ use Rattle.gateway.specs.declared.change.Change.{Change}
 use Rattle.gateway.specs.declared.AdmitAnswer.{AdmitAnswer}
 use Rattle.gateway.specs.Registry.{admitAnswer, retireAnswer, tableSize}
 use Rattle.gateway.specs.Helpers.{_orElse_, roomRefusal, exchangeAt, admitNumber, admittedChange, hasNumber, inside}
-use Rattle.gateway.specs.Gateway.{placeBy, freePlace, pendingWith, nextTicket, gatewayDoes, gatewayAdmitted, gatewayRetired, gatewayAdmitNumber}
+use Rattle.gateway.specs.Engines.{placeBy, freePlace, pendingWith}
+use Rattle.gateway.specs.Gateway.{nextTicket, gatewayDoes, gatewayAdmitted, gatewayRetired, gatewayAdmitNumber}
 use Rattle.gateway.specs.View.{registryOf, isFull}
 use Rattle.gateway.specs.Change.{changed, Fits}
 use Rattle.gateway.specs.Calls.{Done, admit, retire, onTicket, ofAdmit, ofRetire, ofStep}

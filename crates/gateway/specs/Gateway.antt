@@ -1,17 +1,12 @@
 -- The gateway as it is stored, and what it does with each call: the contracts of the entries cite `gatewayDoes` and `freshGateway`. The
 -- theorems of `book` say of every list of calls that it gives what 01's book gives.
-use Prim.Native.Nat.{ℕ, _%_}
-use mathlib.Core.Bool.{Bool}
+use Prim.Native.Nat.{ℕ}
 use mathlib.Core.List.{List, []}
-use lib.Dec.{ltb}
-use lib.ListN.{length, getD, set, replicate}
-use Rattle.wire.specs.Tests.{pick, _and_}
-use Rattle.wire.specs.Search.{firstPlace}
+use lib.ListN.{length, set, replicate}
 use Rattle.wire.specs.Refusals.{unlessRefused, written}
 use Rattle.keylist.specs.Layout.{Configuration, Result, good, bad}
-use Rattle.exchange.specs.declared.Exchange.{Exchange}
 use Rattle.request.specs.Request.{keyIdOf, fieldsOf, infoOf}
-use Rattle.exchange.specs.Exchange.{free, isFree, hasTicket, asked}
+use Rattle.exchange.specs.Exchange.{free, asked}
 use Rattle.exchange.specs.Steps.{Step, refusal, next, answer, buffer}
 use Rattle.keys.specs.declared.Keys.{Keys}
 use Rattle.keys.specs.Keys.{keyWith, retireRefusal, keysOf}
@@ -19,6 +14,7 @@ use Rattle.keys.specs.Stored.{storedKeys, oneMore, usedState, retiredState, cha
 use Rattle.gateway.specs.declared.Gateway.{Gateway}
 use Rattle.gateway.specs.declared.table.Engine.{Engine}
 use Rattle.gateway.specs.Registry.{tableSize, setup, admitRefusal, admitAnswer, retireAnswer, report}
+use Rattle.gateway.specs.Engines.{freePlace, placeOfTicket, pendingWith}
 use Rattle.gateway.specs.View.{registryOf, pendingIn, isFull}
 use Rattle.gateway.specs.Calls.{Call, admit, retire, onTicket, reporting, ofAdmit, ofRetire, ofStep, ofReport, Done}
 
@@ -33,28 +29,6 @@ gatewayFrom cap (bad r) = emptyGateway 1 (storedKeys [])
 
 abbrev pub freshGateway : List ℕ → ℕ → Gateway
 freshGateway list cap = gatewayFrom cap (setup list cap)
-
--- a ticket's home, where the fast engine looks first
-abbrev pub home : ℕ → ℕ
-home ticket = ticket % tableSize
-
--- where an engine finds, for a ticket, an exchange that passes: the plain one the first, the fast one that at the ticket's home if it
--- passes, else the first; the table's length where none passes
-unfoldable pub placeBy : Engine → ℕ → (Exchange → Bool) → List Exchange → ℕ
-placeBy Engine.Plain ticket passes table = firstPlace passes table
-placeBy Engine.Fast ticket passes table =
-    pick (ltb (home ticket) (length table) and passes (getD table (home ticket) free)) (home ticket) (firstPlace passes table)
-
--- 01's open point, the place of a new exchange in a table that is not full. The theorems use of it only that it was free (`NewPlace` of book).
-abbrev pub freePlace : Engine → ℕ → List Exchange → ℕ
-freePlace engine ticket table = placeBy engine ticket isFree table
-
--- the place of the exchange that has the ticket, and that exchange; a free place where none has it
-abbrev pub placeOfTicket : Engine → ℕ → List Exchange → ℕ
-placeOfTicket engine ticket table = placeBy engine ticket (hasTicket ticket) table
-
-abbrev pub pendingWith : Engine → ℕ → List Exchange → Exchange
-pendingWith engine ticket table = getD table (placeOfTicket engine ticket table) free
 
 -- the next ticket
 abbrev pub nextTicket : Gateway → ℕ

@@ -3,6 +3,7 @@
 pub mod Registry
 pub mod Calls
 pub mod View
+pub mod Engines
 pub mod Gateway
 pub mod Change
 pub mod Helpers

@@ -4,7 +4,7 @@ ghost use mathlib.Core.List.{[], _∷_};
 ghost use Prim.Native.Nat.{_≤_, _<_};
 ghost use lib.ListN.{length, getD};
 ghost use Rattle.exchange.specs.Exchange.{free};
-ghost use Rattle.gateway.specs.Gateway.{placeBy};
+ghost use Rattle.gateway.specs.Engines.{placeBy};
 ghost use Rattle.gateway.specs.Helpers.{hasNumber, takesHome, inside};
 ghost use Rattle.gateway.specs.View.{pendingIn};
 ghost use Rattle.gateway.specs.Registry.{tableSize};
@@ -40,12 +40,7 @@ impl Engine {
 
 // What an engine finds, near a ticket's home, of the exchanges whose ticket is a number, which is 0 in a free place; the first place and what is
 // there where it finds none. It is one function, since each that takes the table may copy it.
-pub(crate) fn find(
-    table: [Exchange; TABLE_SIZE],
-    engine: Engine,
-    number: u64,
-    near: u64,
-) -> Found
+pub(crate) fn find(table: [Exchange; TABLE_SIZE], engine: Engine, number: u64, near: u64) -> Found
     ensures place { λ r. ⌜ r .place ≡ inside (placeBy engine near (hasNumber number) table) ⌝ }
     ensures exchange { λ r. ⌜ r .exchange ≡ getD table (r .place) free ⌝ }
     ensures below { λ r. ⌜ r .place < tableSize ⌝ }

@@ -40,7 +40,7 @@ use Rattle.wire.specs.Search.{firstPlace}
 use Rattle.keys.specs.Helpers.{hasKeyId}
 use Rattle.gateway.specs.declared.Gateway.{Gateway}
 use Rattle.gateway.specs.declared.table.Engine.{Engine}
-use Rattle.gateway.specs.Gateway.{placeBy}
+use Rattle.gateway.specs.Engines.{placeBy}
 use Rattle.gateway.specs.Helpers.{hasNumber, inside}
 use Rattle.gateway.proofs.Gateway as gateway
 use Rattle.gateway.proofs.table.inside as within
@@ -165,7 +165,6 @@ module _ {M : Type 1} {𝓤 : URA M} {H : Heap 𝓤} {A : Atoms 𝓤} {K : Type 
       calls-search t fm (plain (λ κs. u8) ∷ []) (yes, tt) (λ κs a h r. r ≡ firstPlace (hasKeyId (a .0)) (h .keys .list)) met g b o (λ κs. (id, tt))
       (λ κs. (vint w8 id ∷ [], tt)) (λ κs. qed W [] ∵ nothing ! $ owned ! u8 (Is u8) (uint-makes 𝓤 H A W w8) id _ (refl, id-fits) $ fjoin ! $ done !)
       (λ κs. operands) (λ κs. then)
-
 
 -- ---- `inside`
 module _ {M : Type 1} (𝓤 : URA M) (H : Heap 𝓤) (A : Atoms 𝓤) (at-mem : Memory → SProp 𝓤) (run : Routine → Fun 𝓤) where

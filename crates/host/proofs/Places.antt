@@ -131,7 +131,6 @@ module _ (g : Gateway) (k : ℕ) (e : Exchange) where
         (parts .1 .0, (parts .1 .1 .0, (field-set exchange.the-type exchange.Laws.the-laws 128 (g .table) _ k e (parts .1 .1 .1 .0) new, tt))),
       )
 
-
 -- ---- the keys
 abbrev pub key-value : KeyState → Val
 key-value = structs.val key.the-type key.Laws.the-laws

@@ -1,7 +1,7 @@
 // Searches of the table of a gateway in the host's memory (A10). They are exported so that what a search costs can be measured alone.
 ghost use mathlib.Core.Path.{_≡_};
 ghost use Rattle.gateway.specs.declared.table.Engine.{Engine};
-ghost use Rattle.gateway.specs.Gateway.{placeBy};
+ghost use Rattle.gateway.specs.Engines.{placeBy};
 ghost use Rattle.gateway.specs.Helpers.{hasNumber};
 use gateway::Gateway;
 use gateway::table::TABLE_SIZE;

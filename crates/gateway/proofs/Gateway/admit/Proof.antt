@@ -8,7 +8,7 @@ use Rattle.exchange.specs.declared.Ticket.{Ticket}
 use Rattle.keys.specs.declared.KeyPlace.{KeyPlace}
 use Rattle.keys.specs.Keys.{keysOf}
 use Rattle.keys.specs.Helpers.{foundKey}
-use Rattle.gateway.specs.Gateway.{freePlace}
+use Rattle.gateway.specs.Engines.{freePlace}
 use Rattle.gateway.specs.Helpers.{inside}
 use Rattle.gateway.proofs.Lengths.{full-table, full-keys}
 use Rattle.gateway.proofs.Results.{admitted-by, reads-by}

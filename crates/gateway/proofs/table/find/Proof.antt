@@ -12,7 +12,7 @@ use lib.ListN.{length, getD}
 use Rattle.wire.specs.Search.{firstPlace}
 use Rattle.wire.proofs.Matches.{first-at, first-none}
 use Rattle.exchange.specs.Exchange.{free}
-use Rattle.gateway.specs.Gateway.{placeBy}
+use Rattle.gateway.specs.Engines.{placeBy}
 use Rattle.gateway.specs.Helpers.{hasNumber, inside}
 use Rattle.gateway.specs.Registry.{tableSize}
 use Rattle.gateway.proofs.Places.{home-taken, home-passed}

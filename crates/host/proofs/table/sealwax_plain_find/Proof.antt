@@ -6,7 +6,7 @@ use mir.Syntax.{w64, field, tyArray}
 use types.Run.{stop, fld}
 use Rattle.exchange.specs.Exchange.{free}
 use Rattle.exchange.proofs.Exchange as exchange
-use Rattle.gateway.specs.Gateway.{placeBy}
+use Rattle.gateway.specs.Engines.{placeBy}
 use Rattle.host.proofs.Places.{table-length, offset-fits, number-fits, look-number}
 use Rattle.host.proofs.Searches.{law}
 use Rattle.host.proofs.table.sealwax_plain_find as export
