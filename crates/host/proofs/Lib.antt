@@ -1,6 +1,7 @@
 -- Laws that belong to no one function.
 pub mod Applied
 pub mod Arrays
+pub mod Called
 pub mod Elements
 pub mod Exported
 pub mod Found

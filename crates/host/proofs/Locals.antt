@@ -1,5 +1,5 @@
 -- The locals of a list of types, whatever their number: one step of a walk allocates, fills or frees them all. So one law can walk functions of
--- any number of parameters. And all locals of a function, which one step frees at its end (`frees-locals`).
+-- any number of parameters. And all locals of a function, which one step allocates (`alloc-locals`) and one step frees at its end (`frees-locals`).
 -- Assumes nothing.
 use mathlib.Core.Path.{_≡_, refl, sym, subst}
 use Prim.Native.Nat.{ℕ, zero, suc}
@@ -15,7 +15,7 @@ use prog.Wp.{Heap, Env, Spot, noLocal, walk}
 use ghost.Atoms.{Atoms}
 use types.Kit.{Given, Item, ‵, _⊛_, mean, ⋆, Goal, allocs, passes, frees, Seq, Step, step, _$_, _∵_, !, qed, use0, move, keep, drop, join, split, done}
 use types.Kit.{nth, del, pull, unpull, push, pop}
-use types.Run.{Walks, Finds, Opds, init, forget, alloc1, pass1, pass0, free1, free0}
+use types.Run.{Walks, Finds, Opds, init, forget, alloc1, alloc0, pass1, pass0, free1, free0}
 use denote.Laws.{Typed}
 
 -- a block of memory for each
@@ -124,7 +124,16 @@ pub data Content : Type 0 where
   has : Val → Content
   empty : Content
 
+-- a block of memory for each local
+abbrev pub LocalBlocks : List Local → Type 0
+LocalBlocks [] = Unit {0}
+LocalBlocks (l ∷ ls) = ℕ × LocalBlocks ls
+
 module _ {M : Type 1} (𝓤 : URA M) (H : Heap 𝓤) where
+  abbrev pub locals-at : (ls : List Local) → LocalBlocks ls → Env 𝓤 H
+  locals-at [] bs = []
+  locals-at (local τ h ∷ ls) bs = (τ, bs .0) ∷ locals-at ls (bs .1)
+
   abbrev cell : Ty → ℕ → Content → Item 𝓤
   cell τ b (has v) = ‵ (fat fullShare τ b zero v)
   cell τ b empty = ‵ (froom τ b zero)
@@ -155,6 +164,12 @@ module _ {M : Type 1} (𝓤 : URA M) (H : Heap 𝓤) (A : Atoms 𝓤) (W : Given
   under i Γ Δ h = via 𝓤 _ (pop 𝓤 H A i Γ) (via 𝓤 _ (monoR 𝓤 (mean 𝓤 H A i) h) (push 𝓤 H A i Δ))
 
 module _ {M : Type 1} {𝓤 : URA M} {H : Heap 𝓤} {A : Atoms 𝓤} {K : Type 0} {W : Given 𝓤 H A} where
+  -- the function is entered: its locals are empty
+  pub alloc-locals : K → (ls : List Local) {Γ : List (Item 𝓤)} {Kt : Env 𝓤 H → Goal 𝓤 H}
+      → ((bs : LocalBlocks ls) → Seq K W (from-last 𝓤 H (locals-at 𝓤 H ls bs) [] Γ) (Kt (locals-at 𝓤 H ls bs))) → Seq K W Γ (allocs ls Kt)
+  alloc-locals t [] k = alloc0 t $ k tt
+  alloc-locals t (local τ h ∷ ls) {Γ} {Kt} k = alloc1 t (λ b. alloc-locals t ls {Kt = λ E. Kt ((τ, b) ∷ E)} (λ bs. k (b, bs)))
+
   free-rooms : K → (E : Env 𝓤 H) {Γ : List (Item 𝓤)} {g : Goal 𝓤 H} → Step K W Γ g (all-rooms 𝓤 H E ∷ Γ) (frees E g)
   free-rooms t [] = step (λ s. drop t $ free0 t $ s)
   free-rooms t (e ∷ E) = step (λ s. split t $ split t $ free1 t $ free-rooms t E $ s)
