@@ -56,7 +56,7 @@ use Rattle.gateway.specs.declared.change.Change.{Change}
 use Rattle.gateway.specs.declared.table.Engine.{Engine}
 use Rattle.gateway.specs.Calls.{admit}
 use Rattle.gateway.specs.Change.{changed, Fits}
-use Rattle.gateway.specs.Gateway.{placeBy}
+use Rattle.gateway.specs.Engines.{placeBy}
 use Rattle.gateway.specs.Helpers.{hasNumber, inside}
 use Rattle.gateway.proofs.Gateway as gateway
 use Rattle.gateway.proofs.Results.{reads-by, admitted-by}
