@@ -176,7 +176,7 @@ impl Plain for gateway::Gateway {
     }
 
     fn is_pending(&self, ticket: u64) -> bool {
-        self.pending.contains_key(&ticket)
+        self.pending.get(&ticket).is_some()
     }
 }
 
