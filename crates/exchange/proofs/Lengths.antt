@@ -1,11 +1,12 @@
 -- What respond's test of lengths tells, and what no refusal of a call tells.
 -- Assumes nothing.
-use mathlib.Core.Path.{_≡_}
+use mathlib.Core.Path.{_≡_, refl}
 use mathlib.Core.Bool.{true, false, not}
-use Prim.Native.Nat.{ℕ, _+_, _≤_}
+use Prim.Native.Nat.{ℕ, zero, suc, _+_, _≤_}
 use native.Mathlib.Omega.{arith}
 use lib.Dec.{eqb, ltb}
 use borrow.Author.Tests.{eqb-true, leb-true, ltb-false, not-false}
+use Rattle.wire.specs.Refusals.{refused}
 use Rattle.wire.proofs.Booleans.{either}
 use Rattle.wire.proofs.Numbers.{not-refused}
 use Rattle.keylist.proofs.LayoutLaws.{both}
@@ -13,9 +14,10 @@ use Rattle.algorithms.specs.Sizes.{knownKem, knownAead, encLength, responseNonc
 use Rattle.algorithms.proofs.Stated.{size-bounds}
 use Rattle.exchange.specs.declared.Exchange.{Exchange}
 use Rattle.exchange.specs.declared.Move.{Move}
+use Rattle.exchange.specs.declared.StepAnswer.{StepAnswer}
 use Rattle.exchange.specs.Exchange.{isFree, responseHolds}
 use Rattle.wire.specs.Texts.{longestPlain}
-use Rattle.exchange.specs.Steps.{isAllowed, lengthsHold, refusalBy}
+use Rattle.exchange.specs.Steps.{isAllowed, lengthsHold, refusalBy, answerBy}
 use Rattle.exchange.specs.Moved.{ofTicket}
 
 -- the lengths that hold, as numbers, and their bounds
@@ -66,3 +68,8 @@ pub own-accepted : (ticket : ℕ) (kind : Move) (encSize nonceSize room : ℕ) (
 unfolding refusalBy
 own-accepted ticket kind encSize nonceSize room e none =
     either (eqb (e .ticket .0) ticket) (λ own. rw own) (λ other. let z : _≡_ {A = ℕ} 11 0 = rw other at none in absurd (omega arith))
+
+-- the answer where a number refuses
+pub answer-refused : (n : ℕ) (a : StepAnswer) → (n ≡ 0 → ⊥) → StepAnswer.Refused (refused n) ≡ answerBy n a
+answer-refused zero a h = absurd (h refl)
+answer-refused (suc n) a h = refl

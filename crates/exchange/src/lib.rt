@@ -4,7 +4,7 @@ ghost use mathlib.Core.Path.{_≡_};
 ghost use mathlib.Core.Bool.{true};
 ghost use lib.Dec.{eqb};
 ghost use Rattle.exchange.specs.Exchange.{free, isFree, asked, leftIn, hasOpenedLength, responseHolds};
-ghost use Rattle.exchange.specs.Steps.{step, whenAsked, whenOpened, leaves, isAllowed, lengthsHold, refusalBy, accepted, answer, buffer};
+ghost use Rattle.exchange.specs.Steps.{step, bare, whenAsked, whenOpened, leaves, isAllowed, lengthsHold, refusalBy, accepted, answer, buffer};
 ghost use Rattle.exchange.specs.Moved.{ofTicket, after};
 use algorithms::Aead;
 use algorithms::Kem;
@@ -169,6 +169,24 @@ impl Exchange {
         Moved {
             exchange: self.left_in(kind.leaves()),
             answer: self.accepted(kind, enc.len(), nonce.len()),
+        }
+    }
+
+    // The same for a call that brings no bytes: there is nothing to write.
+    pub fn moved_bare(self, ticket: Ticket, kind: Move) -> Moved
+        ensures answer { λ r. ⌜ r .answer ≡ answer (bare kind) (ofTicket (ticket .0) self) ⌝ }
+        ensures next { λ r. ⌜ r .exchange ≡ after (ticket .0) (bare kind) self ⌝ }
+    {
+        let number = self.refusal(ticket, kind, 0, 0, 0);
+        if number != 0 {
+            return Moved {
+                exchange: self,
+                answer: StepAnswer::Refused(Refusal::of(number)),
+            };
+        }
+        Moved {
+            exchange: self.left_in(kind.leaves()),
+            answer: self.accepted(kind, 0, 0),
         }
     }
 

@@ -1,6 +1,6 @@
 -- What a request that is not refused is like, and its first 7 bytes.
 -- Assumes nothing.
-use mathlib.Core.Path.{_≡_}
+use mathlib.Core.Path.{_≡_, refl}
 use mathlib.Core.Bool.{true}
 use mathlib.Core.List.{List, append-nil}
 use Prim.Native.Nat.{ℕ, _≤_}
@@ -12,8 +12,9 @@ use Rattle.wire.specs.Helpers.{roomFor, overwritten}
 use Rattle.wire.specs.Texts.{headLength, longestRequest}
 use Rattle.wire.proofs.Booleans.{either}
 use Rattle.algorithms.specs.Sizes.{knownKem, shortestRequest}
-use Rattle.request.specs.Request.{kemOf}
-use Rattle.request.specs.Helpers.{requestRefusal}
+use Rattle.algorithms.specs.Answers.{sizeOf}
+use Rattle.request.specs.Request.{kemOf, encEnd}
+use Rattle.request.specs.Helpers.{requestRefusal, lengthRefusal, beforeTag}
 
 -- not refused: the KEM is known, and the length is neither too short for it nor too long
 pub accepted-request : (request : List ℕ) → requestRefusal request ≡ 0
@@ -49,3 +50,13 @@ pub info-of : (request : List ℕ) → headLength ≤ length request
 info-of request h =
     let e : roomFor (replicate headLength 0) 0 request ≡ headLength = omega arith in
     rw e (append-nil (take headLength request))
+
+-- the code asks the table for the shortest request alone, and has the refusal and the end of enc by it
+pub refusal-by-length : (request : List ℕ)
+    → lengthRefusal (length request) (sizeOf (knownKem (kemOf request)) (shortestRequest (kemOf request))) ≡ requestRefusal request
+unfolding requestRefusal
+refusal-by-length request = either (knownKem (kemOf request)) (λ k. rw k refl) (λ k. rw k refl)
+
+pub enc-end-by-length : (request : List ℕ) → requestRefusal request ≡ 0
+    → beforeTag (sizeOf (knownKem (kemOf request)) (shortestRequest (kemOf request))) ≡ encEnd request
+enc-end-by-length request none = rw (accepted-request request none .0) (omega arith)

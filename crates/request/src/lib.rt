@@ -1,11 +1,10 @@
 // A request (01, "Request"): its fields, where its parts lie, and the refusals that it decides alone.
 ghost use mathlib.Core.Path.{_≡_};
-ghost use Prim.Native.Nat.{_≤_};
 ghost use lib.ListN.{replicate};
 ghost use Rattle.wire.specs.Helpers.{overwritten};
 ghost use Rattle.wire.specs.Texts.{headLength, infoBytes};
-ghost use Rattle.algorithms.specs.Sizes.{encLength};
-ghost use Rattle.request.specs.Helpers.{requestRefusal, noFields, parsed};
+ghost use Rattle.request.specs.Helpers.{lengthRefusal, beforeTag, noFields, parsed};
+use algorithms::Aead;
 use algorithms::Kem;
 use algorithms::Size;
 use keylist::KeyId;
@@ -34,19 +33,20 @@ pub struct Parsed {
     pub request: Request,
 }
 
-// Reads a request. Nenc is that of its own KEM: no key is looked at.
+// Reads a request. Nenc is that of its own KEM: no key is looked at. The table is asked once.
 pub fn read(request: &[u8]) -> Parsed
     ensures { λ r. ⌜ r ≡ parsed (now (request .entry)) ⌝ }
 {
-    let number = refusal(request);
+    let kem = word_at(request, 1);
+    let shortest = Kem(kem).shortest_request();
+    let number = refusal(request.len(), shortest);
     if number != 0 {
         return Parsed {
             refusal: number,
             request: no_fields(),
         };
     }
-    let kem = word_at(request, 1);
-    let enc_end = texts::HEAD_LENGTH + enc_length(kem);
+    let enc_end = before_tag(shortest);
     Parsed {
         refusal: 0,
         request: Request {
@@ -69,34 +69,36 @@ pub fn info(request: &[u8]) -> [u8; texts::INFO_LENGTH]
     texts::info(head)
 }
 
-// The first refusal of the request's sizes and of its KEM, 0 where there is none.
-fn refusal(request: &[u8]) -> u8
-    ensures { λ r. ⌜ r ≡ requestRefusal (now (request .entry)) ⌝ }
+// The first refusal by the request's length and by the shortest length of its KEM, 0 where there is none.
+fn refusal(length: usize, shortest: Size) -> u8
+    ensures { λ r. ⌜ r ≡ lengthRefusal length shortest ⌝ }
 {
-    if LONGEST < request.len() {
+    if LONGEST < length {
         return Refusal::TOO_LONG;
     }
-    if request.len() < texts::HEAD_LENGTH {
+    if length < texts::HEAD_LENGTH {
         return Refusal::TOO_SHORT;
     }
-    let Size::Bytes(shortest) = Kem(word_at(request, 1)).shortest_request() else {
+    let Size::Bytes(size) = shortest else {
         return Refusal::UNKNOWN_KEM;
     };
-    if request.len() < shortest {
+    if length < size {
         return Refusal::TOO_SHORT;
     }
     0
 }
 
-// Nenc, 0 where the KEM is unknown.
-fn enc_length(kem: u16) -> usize
-    ensures { λ r. ⌜ r ≡ encLength kem ⌝ }
-    ensures bound { λ r. ⌜ r ≤ 133 ⌝ }
+// The shortest length without its tag: where enc ends.
+fn before_tag(shortest: Size) -> usize
+    ensures { λ r. ⌜ r ≡ beforeTag shortest ⌝ }
 {
-    match Kem(kem).enc_length() {
-        Size::Bytes(size) => size,
-        Size::Unknown => 0,
+    let Size::Bytes(size) = shortest else {
+        return 0;
+    };
+    if size < Aead::TAG_LENGTH {
+        return 0;
     }
+    size - Aead::TAG_LENGTH
 }
 
 // What stands for the fields of a request that is refused.

@@ -172,8 +172,13 @@ fn step(
 fn bare_step(there: Exchange, ticket: u64, kind: Move) -> StepDone
     ensures { λ r. ⌜ Moves stepResult ticket (bare kind) there (r .exchange) (r .result) [] ⌝ }
 {
-    let mut salt = [0u8; 0];
-    step(there, ticket, kind, &[], &[], &mut salt)
+    let moved = there.moved_bare(Ticket(ticket), kind);
+    let exchange = moved.exchange;
+    let answer = moved.answer;
+    StepDone {
+        exchange,
+        result: step_result(answer),
+    }
 }
 
 // Open result: `success` is 0 where the host could not open the request, and any other number where it opened n bytes. The number is 1 where

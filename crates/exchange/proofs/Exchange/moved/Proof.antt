@@ -1,24 +1,16 @@
 -- `exchange::Exchange::moved` meets its contract: enc and nonce by the laws of writes at the front, the next state; and all as
 -- it was where a number refuses.
 -- Assumes nothing.
-use mathlib.Core.Path.{_≡_, refl, sym, ap, _∙_}
-use Prim.Native.Nat.{ℕ, zero, suc}
+use mathlib.Core.Path.{sym, ap, _∙_}
 use native.Mathlib.Omega.{arith}
 use lib.ListN.{length}
-use Rattle.wire.specs.Refusals.{refused}
 use Rattle.wire.proofs.Writes.{front-first, front-more}
 use Rattle.wire.proofs.Numbers.{unless-refused}
 use Rattle.exchange.specs.declared.StepAnswer.{StepAnswer}
-use Rattle.exchange.specs.Steps.{answerBy}
-use Rattle.exchange.proofs.Lengths.{Accepted, accepted-by, own-accepted}
+use Rattle.exchange.proofs.Lengths.{Accepted, accepted-by, own-accepted, answer-refused}
 use borrow.Author.Needs.{needs}
 use Rattle.exchange.proofs.Exchange.moved.Statement.{statement}
 use Rattle.exchange.proofs.Exchange.moved.Tie as tie
-
--- the answer where a number refuses
-answer-refused : (n : ℕ) (a : StepAnswer) → (n ≡ 0 → ⊥) → StepAnswer.Refused (refused n) ≡ answerBy n a
-answer-refused zero a h = absurd (h refl)
-answer-refused (suc n) a h = refl
 
 -- from the last place back to where nothing was refused
 abbrev passed : tie.After-left-in → tie.Else1
