@@ -244,11 +244,11 @@ sealwax_report_result sealwax_report(const sealwax_gateway *gateway);
 
 /* ---- the search alone: for measuring what it costs; a host needs neither */
 
-/* The place of the pending exchange with a ticket, by a walk over the table; 128 where none has it. Changes nothing. */
+/* The first place of the table whose ticket is this one, by a walk; a free place has the ticket 0; 128 where there is none. Changes nothing. */
 size_t sealwax_plain_find(sealwax_gateway *gateway, uint64_t ticket);
 
-/* The same by a ticket's home: place near % 128 is looked at first, and the walk is made where the ticket is not there. The calls on a
-   ticket search with near = ticket. */
+/* The same by home: place near % 128 is looked at first, and the walk is made where the ticket is not there. The calls on a ticket search
+   with near = ticket; admit searches the ticket 0 with near = the next ticket. */
 size_t sealwax_find(sealwax_gateway *gateway, uint64_t ticket, uint64_t near);
 
 /* ---- key lists */

@@ -119,10 +119,12 @@ static void steps(void) {
 /* Both searches find a ticket at its home, or where its home is taken at the first place that was free, and no ticket that is not pending. */
 static void searches(void) {
     fresh(1000);
+    EXPECT(sealwax_plain_find(&gateway, 0) == 0 && sealwax_find(&gateway, 0, 1) == 1);
     for (uint64_t ticket = 1; ticket <= 128; ticket++) {
         EXPECT(admit(55).ticket == ticket);
         EXPECT(sealwax_find(&gateway, ticket, ticket) == ticket % 128 && sealwax_plain_find(&gateway, ticket) == ticket % 128);
     }
+    EXPECT(sealwax_plain_find(&gateway, 0) == 128 && sealwax_find(&gateway, 0, 129) == 128);
     EXPECT(sealwax_abandon(&gateway, 64).number == 0 && admit(55).ticket == 129);
     EXPECT(sealwax_find(&gateway, 129, 129) == 64 && sealwax_plain_find(&gateway, 129) == 64);
     EXPECT(sealwax_find(&gateway, 64, 64) == 128 && sealwax_plain_find(&gateway, UINT64_MAX) == 128);

@@ -25,7 +25,7 @@ use Rattle.book.specs.Book.{Book, freshBook, bookDoes, bookStepNumber}
 use Rattle.book.specs.History.{final, gatewayAfter, Accepts}
 use Rattle.book.specs.Demand3.{bookAfter}
 use Rattle.book.specs.Lifecycle.{LifecycleHolds}
-use Rattle.book.specs.Storage.{placeBefore, ClosedPlaceIsFree}
+use Rattle.book.specs.Storage.{placeAfter, ClosedPlaceIsFree}
 use Rattle.book.proofs.Passing.{passing, passing-permuted}
 use Rattle.book.proofs.Table.{holding, holding-pending}
 use Rattle.book.proofs.Numbers.{step-number}
@@ -115,10 +115,10 @@ module _ (list : List ℕ) (cap : ℕ) (calls : List Call) (ticket : ℕ) (step 
       (rw (closed-free (step .kind) (exchangeOf ticket (bookAfter list cap calls .pending)) closing))
 
   -- the exchange stands in the table
-  place-inside : placeBefore list cap calls ticket < length (gatewayAfter list cap calls .table)
+  place-inside : placeAfter list cap calls ticket < length (gatewayAfter list cap calls .table)
   place-inside =
       let table = gatewayAfter list cap calls .table in
-      let place = placeBefore list cap calls ticket in
+      let place = placeAfter list cap calls ticket in
       let found = accepted-pending step (pendingWith Engine.Fast ticket table) (sym (step-told (gatewayAfter list cap calls) ticket step) ∙ accepted) in
       either (ltb place (length table)) (λ l. ltb-true place (length table) l)
       (λ l. absurd (true-or-false (ap isFree (List·getD-eq-default table free (ltb-false place (length table) l))) found))
@@ -126,14 +126,14 @@ module _ (list : List ℕ) (cap : ℕ) (calls : List Call) (ticket : ℕ) (step 
   -- and the place where the exchange stood is free
   place-free : closes (step .kind) ≡ true
       → getD (gatewayAfter list cap (calls ++ onTicket ticket step ∷ []) .table)
-      (placeBefore list cap calls ticket) free
+      (placeAfter list cap calls ticket) free
       ≡ free
   unfolding final gatewayDoes
   place-free closing =
       let g = gatewayAfter list cap calls in
       let e = pendingWith Engine.Fast ticket (g .table) in
       rw (final-append (gatewayDoes Engine.Fast) (freshGateway list cap) calls (onTicket ticket step ∷ []), sym (step-told g ticket step) ∙ accepted, closed-free (step .kind) e closing)
-      (place-freed (g .table) (placeBefore list cap calls ticket))
+      (place-freed (g .table) (placeAfter list cap calls ticket))
 
 pub lifecycle-holds : LifecycleHolds
 unfolding gatewayDoes unprotectedStatus

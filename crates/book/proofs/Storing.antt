@@ -21,7 +21,7 @@ use Rattle.gateway.specs.Gateway.{freshGateway, gatewayDoes}
 use Rattle.gateway.specs.View.{pendingIn, isFull}
 use Rattle.gateway.specs.Calls.{Call, admit, onTicket}
 use Rattle.book.specs.History.{final, gatewayAfter, Accepts}
-use Rattle.book.specs.Storage.{placeBefore, NewPlace, FullExactly, ClosedPlaceIsUsedAgain}
+use Rattle.book.specs.Storage.{placeAfter, NewPlace, FullExactly, ClosedPlaceIsUsedAgain}
 use Rattle.book.proofs.Table.{pending-length, full-alike}
 use Rattle.book.proofs.Refinement.{final-append, alike-end}
 use Rattle.book.proofs.Admission.{place-is-free}
@@ -46,7 +46,7 @@ full-exactly list cap calls =
 -- the table after a call on a ticket that is accepted: another exchange at the ticket's place
 stepped-table : (list : List ℕ) (cap : ℕ) (calls : List Call) (ticket : ℕ) (step : Step) → Accepts list cap calls (onTicket ticket step)
     → gatewayAfter list cap (calls ++ onTicket ticket step ∷ []) .table
-    ≡ set (gatewayAfter list cap calls .table) (placeBefore list cap calls ticket) (next step (pendingWith Engine.Fast ticket (gatewayAfter list cap calls .table)))
+    ≡ set (gatewayAfter list cap calls .table) (placeAfter list cap calls ticket) (next step (pendingWith Engine.Fast ticket (gatewayAfter list cap calls .table)))
 unfolding final gatewayDoes
 stepped-table list cap calls ticket step accepted =
     rw (
@@ -66,14 +66,14 @@ only-free table full place other new inside there =
 
 pub closed-place-is-used-again : ClosedPlaceIsUsedAgain
 unfolding final
-closed-place-is-used-again list cap calls ticket step request info full closing accepted admitted =
+closed-place-is-used-again list cap calls ticket step request info full accepted admitted =
     let closed = calls ++ onTicket ticket step ∷ [] in
     let g = gatewayAfter list cap closed in
     let new = place-is-free Engine.Fast g request info admitted in
     let table = gatewayAfter list cap calls .table in
     let after = next step (pendingWith Engine.Fast ticket table) in
     let told = stepped-table list cap calls ticket step accepted in
-    let same = only-free table full (placeBefore list cap calls ticket) (new .place) after
+    let same = only-free table full (placeAfter list cap calls ticket) (new .place) after
     (subst (λ (es : List Exchange). new .place < length es) told (new .inside))
     (subst (λ (es : List Exchange). isFree (getD es (new .place) free) ≡ true) told (new .wasFree)) in
     rw (final-append (gatewayDoes Engine.Fast) (freshGateway list cap) closed (admit request info ∷ []), ← same) (new .holdsNew)

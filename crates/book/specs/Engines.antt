@@ -9,7 +9,7 @@ use Rattle.gateway.specs.View.{registryOf, pendingIn}
 use Rattle.gateway.specs.Calls.{Call, Done}
 use Rattle.book.specs.History.{trace, final, gatewayTrace, gatewayAfter}
 
--- what a call does by the engine that is chosen for it; the choice `λ g call. Engine.Plain` is the plain engine
+-- what a call does by the engine that is chosen for it, by the gateway that it gets and by the call; the choice `λ g call. Engine.Plain` is the plain engine
 abbrev pub doesBy : (Gateway → Call → Engine) → Gateway → Call → Done Gateway
 doesBy choice g call = gatewayDoes (choice g call) g call
 
@@ -21,6 +21,6 @@ pub record EnginesAgree (choice : Gateway → Call → Engine) (list : List ℕ)
   pub sameRegistry : registryOf (final (doesBy choice) (freshGateway list cap) calls) ≡ registryOf (gatewayAfter list cap calls)
   pub samePending : Perm (pendingIn (final (doesBy choice) (freshGateway list cap) calls .table)) (pendingIn (gatewayAfter list cap calls .table))
 
--- for every list of calls, whichever engine each of them goes by
+-- for every list of calls and every choice
 abbrev pub EnginesAgreeHolds : Type 0
 EnginesAgreeHolds = (choice : Gateway → Call → Engine) (list : List ℕ) (cap : ℕ) (calls : List Call) → EnginesAgree choice list cap calls

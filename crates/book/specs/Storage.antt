@@ -1,4 +1,5 @@
--- What holds of how a gateway is stored: the place of a new exchange was free, the place of a closed one is, and no number of a fixed width wraps.
+-- What holds of how a gateway is stored: the place of a new exchange was free, the place of a closed one is and is used again, the table is full with 128
+-- pending, and no number of a fixed width wraps.
 use Prim.Native.Nat.{ℕ, _+_, _<_}
 use mathlib.Core.Bool.{true}
 use mathlib.Core.Path.{_≡_}
@@ -36,34 +37,35 @@ PlaceIsFree =
     → NewPlace (g .table) (gatewayDoes engine g (admit request info) .state .table) (asked (nextTicket g) (fieldsOf request))
 
 -- where the fast engine finds a ticket after the calls
-abbrev pub placeBefore : List ℕ → ℕ → List Call → ℕ → ℕ
-placeBefore list cap calls ticket = placeOfTicket Engine.Fast ticket (gatewayAfter list cap calls .table)
+abbrev pub placeAfter : List ℕ → ℕ → List Call → ℕ → ℕ
+placeAfter list cap calls ticket = placeOfTicket Engine.Fast ticket (gatewayAfter list cap calls .table)
 
 -- "a closed ticket gives 11 and its place is free": a ticket on which a call is accepted has a place, which the call leaves free where it closes
 pub record ClosedPlace (list : List ℕ) (cap : ℕ) (calls : List Call) (ticket : ℕ) (step : Step) : Type 0 where
-  pub inside : placeBefore list cap calls ticket < length (gatewayAfter list cap calls .table)
+  pub inside : placeAfter list cap calls ticket < length (gatewayAfter list cap calls .table)
   pub leftFree : closes (step .kind) ≡ true
-      → getD (gatewayAfter list cap (calls ++ onTicket ticket step ∷ []) .table) (placeBefore list cap calls ticket) free ≡ free
+      → getD (gatewayAfter list cap (calls ++ onTicket ticket step ∷ []) .table) (placeAfter list cap calls ticket) free ≡ free
 
 abbrev pub ClosedPlaceIsFree : Type 0
 ClosedPlaceIsFree =
     (list : List ℕ) (cap : ℕ) (calls : List Call) (ticket : ℕ) (step : Step) → Accepts list cap calls (onTicket ticket step)
     → ClosedPlace list cap calls ticket step
 
--- A10: 128 pending is full whatever the tickets are, and fewer are not
+-- A10, by the fast engine: 128 pending is full whatever the tickets are, and fewer are not; so admit's 9 is 128 pending
 abbrev pub FullExactly : Type 0
 FullExactly =
     (list : List ℕ) (cap : ℕ) (calls : List Call) → let table = gatewayAfter list cap calls .table in
     isFull table ≡ eqb (length (pendingIn table)) tableSize
 
--- and a closed place is used again, also where homes are taken: in a table that was full the next exchange stands where the closed one stood
+-- and a closed place is used again, also where homes are taken: in a table that was full the next exchange stands where the closed one stood (a call
+-- that does not close leaves the table full, and no admit is accepted)
 abbrev pub ClosedPlaceIsUsedAgain : Type 0
 ClosedPlaceIsUsedAgain =
     (list : List ℕ) (cap : ℕ) (calls : List Call) (ticket : ℕ) (step : Step) (request info : List ℕ)
-    → isFull (gatewayAfter list cap calls .table) ≡ true → closes (step .kind) ≡ true → Accepts list cap calls (onTicket ticket step)
+    → isFull (gatewayAfter list cap calls .table) ≡ true → Accepts list cap calls (onTicket ticket step)
     → let closed = calls ++ onTicket ticket step ∷ [] in
     Accepts list cap closed (admit request info)
-    → getD (gatewayAfter list cap (closed ++ admit request info ∷ []) .table) (placeBefore list cap calls ticket) free
+    → getD (gatewayAfter list cap (closed ++ admit request info ∷ []) .table) (placeAfter list cap calls ticket) free
     ≡ asked (nextTicket (gatewayAfter list cap closed)) (fieldsOf request)
 
 -- no ticket and no count is the largest of its width, so that the next one is one more

@@ -184,8 +184,9 @@ impl Exchange {
                 answer: StepAnswer::Refused(Refusal::of(number)),
             };
         }
+        let exchange = self.left_in(kind.leaves());
         Moved {
-            exchange: self.left_in(kind.leaves()),
+            exchange,
             answer: self.accepted(kind, 0, 0),
         }
     }

@@ -17,8 +17,8 @@ use Rattle.exchange.specs.declared.Exchange.{Exchange}
 use Rattle.exchange.specs.Exchange.{free, isFree, hasTicket}
 use Rattle.exchange.specs.Moved.{ofTicket}
 use Rattle.gateway.specs.declared.table.Engine.{Engine}
-use Rattle.gateway.specs.Engines.{home, placeBy, placeOfTicket, pendingWith}
-use Rattle.gateway.specs.Helpers.{hasNumber, takesHome, inside}
+use Rattle.gateway.specs.Engines.{home, placeBy, placeOfTicket, pendingWith, hasNumber}
+use Rattle.gateway.specs.Helpers.{takesHome, inside}
 use Rattle.gateway.specs.View.{pendingIn}
 use Rattle.gateway.specs.Registry.{tableSize}
 

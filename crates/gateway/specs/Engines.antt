@@ -2,7 +2,7 @@
 use Prim.Native.Nat.{ℕ, _%_}
 use mathlib.Core.Bool.{Bool}
 use mathlib.Core.List.{List}
-use lib.Dec.{ltb}
+use lib.Dec.{eqb, ltb}
 use lib.ListN.{length, getD}
 use Rattle.wire.specs.Tests.{pick, _and_}
 use Rattle.wire.specs.Search.{firstPlace}
@@ -32,3 +32,7 @@ placeOfTicket engine ticket table = placeBy engine ticket (hasTicket ticket) tab
 
 abbrev pub pendingWith : Engine → ℕ → List Exchange → Exchange
 pendingWith engine ticket table = getD table (placeOfTicket engine ticket table) free
+
+-- what the code searches: an exchange whose ticket is this number, which is 0 in a free place
+abbrev pub hasNumber : ℕ → Exchange → Bool
+hasNumber number e = eqb (e .ticket .0) number

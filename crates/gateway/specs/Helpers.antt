@@ -58,11 +58,7 @@ admittedChange request was =
       exchange = asked ticket (fieldsOf request);
     }
 
--- the exchange's ticket is this number, which is 0 in a free place
-abbrev pub hasNumber : ℕ → Exchange → Bool
-hasNumber number e = eqb (e .ticket .0) number
-
--- an engine takes the home, of the ticket there and the number that is searched
+-- whether an engine answers the home, by the ticket that stands there and the number that is searched
 abbrev pub takesHome : Engine → ℕ → ℕ → Bool
 takesHome Engine.Fast there number = eqb there number
 takesHome Engine.Plain there number = false

@@ -4,8 +4,8 @@ ghost use mathlib.Core.List.{[], _∷_};
 ghost use Prim.Native.Nat.{_≤_, _<_};
 ghost use lib.ListN.{length, getD};
 ghost use Rattle.exchange.specs.Exchange.{free};
-ghost use Rattle.gateway.specs.Engines.{placeBy};
-ghost use Rattle.gateway.specs.Helpers.{hasNumber, takesHome, inside};
+ghost use Rattle.gateway.specs.Engines.{placeBy, hasNumber};
+ghost use Rattle.gateway.specs.Helpers.{takesHome, inside};
 ghost use Rattle.gateway.specs.View.{pendingIn};
 ghost use Rattle.gateway.specs.Registry.{tableSize};
 use exchange::Exchange;
@@ -27,7 +27,7 @@ pub(crate) struct Found {
 }
 
 impl Engine {
-    // The engine takes the home, of the ticket there and the number that is searched. The plain one never does.
+    // Whether the engine answers the home, by the ticket that stands there and the number that is searched. The plain one never does.
     fn takes_home(self, there: u64, number: u64) -> bool
         ensures { λ r. ⌜ r ≡ takesHome self there number ⌝ }
     {
@@ -38,14 +38,14 @@ impl Engine {
     }
 }
 
-// What an engine finds, near a ticket's home, of the exchanges whose ticket is a number, which is 0 in a free place; the first place and what is
-// there where it finds none. It is one function, since each that takes the table may copy it.
+// What an engine finds of the exchanges whose ticket is a number, which is 0 in a free place; the first place and what is there where it finds none.
+// The fast one looks first at the home of the ticket `near`. It is one function, since each that takes the table may copy it.
 pub(crate) fn find(table: [Exchange; TABLE_SIZE], engine: Engine, number: u64, near: u64) -> Found
     ensures place { λ r. ⌜ r .place ≡ inside (placeBy engine near (hasNumber number) table) ⌝ }
     ensures exchange { λ r. ⌜ r .exchange ≡ getD table (r .place) free ⌝ }
     ensures below { λ r. ⌜ r .place < tableSize ⌝ }
 {
-    let home = (near % 128) as usize;
+    let home = (near % TABLE_SIZE as u64) as usize;
     if engine.takes_home(table[home].ticket.0, number) {
         return Found {
             place: home,

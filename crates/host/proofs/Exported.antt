@@ -76,8 +76,8 @@ use Rattle.exchange.proofs.Exchange as exchange
 use Rattle.gateway.specs.declared.Gateway.{Gateway}
 use Rattle.gateway.specs.declared.table.Engine.{Engine}
 use Rattle.gateway.specs.Calls.{Answer, onTicket}
-use Rattle.gateway.specs.Engines.{placeBy}
-use Rattle.gateway.specs.Helpers.{hasNumber, inside}
+use Rattle.gateway.specs.Engines.{placeBy, hasNumber}
+use Rattle.gateway.specs.Helpers.{inside}
 use Rattle.gateway.proofs.Gateway as gateway
 use Rattle.gateway.proofs.Results.{withExchange, stepped}
 use Rattle.gateway.proofs.table.inside as within

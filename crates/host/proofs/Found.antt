@@ -40,8 +40,8 @@ use Rattle.wire.specs.Search.{firstPlace}
 use Rattle.keys.specs.Helpers.{hasKeyId}
 use Rattle.gateway.specs.declared.Gateway.{Gateway}
 use Rattle.gateway.specs.declared.table.Engine.{Engine}
-use Rattle.gateway.specs.Engines.{placeBy}
-use Rattle.gateway.specs.Helpers.{hasNumber, inside}
+use Rattle.gateway.specs.Engines.{placeBy, hasNumber}
+use Rattle.gateway.specs.Helpers.{inside}
 use Rattle.gateway.proofs.Gateway as gateway
 use Rattle.gateway.proofs.table.inside as within
 use Rattle.host.proofs.Walking.{returned, both}

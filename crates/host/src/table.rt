@@ -1,8 +1,8 @@
-// Searches of the table of a gateway in the host's memory (A10). They are exported so that what a search costs can be measured alone.
+// Searches of the table of a gateway in the host's memory (A10). They are exported so that what a search costs can be measured alone. They change
+// nothing, but take `&mut`: the calls lend them the `&mut Gateway` that they were given, as it is.
 ghost use mathlib.Core.Path.{_≡_};
 ghost use Rattle.gateway.specs.declared.table.Engine.{Engine};
-ghost use Rattle.gateway.specs.Engines.{placeBy};
-ghost use Rattle.gateway.specs.Helpers.{hasNumber};
+ghost use Rattle.gateway.specs.Engines.{placeBy, hasNumber};
 use gateway::Gateway;
 use gateway::table::TABLE_SIZE;
 

@@ -120,7 +120,7 @@ impl KeyState {
         next
     }
 
-    // The first refusal of a request that names the key, or none where the key is not there; 0 where there is no refusal.
+    // The first refusal of a request that names the key, 4 where the key is not there; 0 where there is no refusal.
     pub fn refusal(self, there: bool, cap: u32, request: Request) -> u8
         ensures { λ r. ⌜ r ≡ keyRefusal cap (given there (keyOf self)) 0 request ⌝ }
     {
@@ -142,7 +142,7 @@ impl KeyState {
         0
     }
 
-    // The first refusal to retire the key, or none where the key is not there; 0 where there is no refusal.
+    // The first refusal to retire the key, 4 where the key is not there; 0 where there is no refusal.
     pub fn retire_refusal(self, there: bool) -> u8
         ensures { λ r. ⌜ r ≡ retireRefusalAt (given there (keyOf self)) 0 ⌝ }
     {

@@ -12,8 +12,8 @@ use lib.ListN.{length, getD}
 use Rattle.wire.specs.Search.{firstPlace}
 use Rattle.wire.proofs.Matches.{first-at, first-none}
 use Rattle.exchange.specs.Exchange.{free}
-use Rattle.gateway.specs.Engines.{placeBy}
-use Rattle.gateway.specs.Helpers.{hasNumber, inside}
+use Rattle.gateway.specs.Engines.{placeBy, hasNumber}
+use Rattle.gateway.specs.Helpers.{inside}
 use Rattle.gateway.specs.Registry.{tableSize}
 use Rattle.gateway.proofs.Places.{home-taken, home-passed}
 use Rattle.gateway.proofs.table.find.Statement.{statement}
@@ -68,6 +68,6 @@ returns-3 c =
     (rw (← walked (end .before), none, size) refl, (refl, omega arith))
 
 pub find-spec : {M : Type 1} → statement M
-find-spec = tie.close (tie.spec Inv-loop μ-loop (λ c. search needs) (λ c. search needs) (λ c κs. search needs) (λ c. search needs)
+find-spec = tie.close (tie.spec Inv-loop μ-loop (λ c. search needs) (λ c. search needs) (λ c. search needs) (λ c κs. search needs) (λ c. search needs)
     (λ c. search needs) returns loop-holds (λ c. search needs) (λ c. search needs) (λ c. search needs) (λ c. search needs) returns-2
     (λ c. search needs) (λ c. search needs) loop-again (λ c. search needs) returns-3)

@@ -56,8 +56,8 @@ use Rattle.gateway.specs.declared.change.Change.{Change}
 use Rattle.gateway.specs.declared.table.Engine.{Engine}
 use Rattle.gateway.specs.Calls.{admit}
 use Rattle.gateway.specs.Change.{changed, Fits}
-use Rattle.gateway.specs.Engines.{placeBy}
-use Rattle.gateway.specs.Helpers.{hasNumber, inside}
+use Rattle.gateway.specs.Engines.{placeBy, hasNumber}
+use Rattle.gateway.specs.Helpers.{inside}
 use Rattle.gateway.proofs.Gateway as gateway
 use Rattle.gateway.proofs.Results.{reads-by, admitted-by}
 use Rattle.gateway.proofs.change.Change as change

@@ -41,8 +41,7 @@ use borrow.Author.Tests.{lt-ltb}
 use Rattle.wire.proofs.Booleans.{and-false}
 use Rattle.gateway.specs.declared.Gateway.{Gateway}
 use Rattle.gateway.specs.declared.table.Engine.{Engine}
-use Rattle.gateway.specs.Engines.{placeBy, home}
-use Rattle.gateway.specs.Helpers.{hasNumber}
+use Rattle.gateway.specs.Engines.{placeBy, home, hasNumber}
 use Rattle.gateway.proofs.Gateway as gateway
 use Rattle.host.proofs.Locals.{has, frees-locals}
 use Rattle.host.proofs.Places.{gateway-values, exchange-in, in-table, offset-fits, number-fits, look-number, opens-gateway}
