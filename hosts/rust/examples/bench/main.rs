@@ -42,7 +42,7 @@ fn main() {
     }));
 }
 
-/// Prints the table, the bars and the goal, and says whether the bars are met.
+/// Prints the table, the bars and the goals, and says whether the bars are met.
 fn run(program: &str) -> Result<bool, String> {
     let table = measure(program)?;
     println!("{table}");
@@ -50,7 +50,9 @@ fn run(program: &str) -> Result<bool, String> {
     for bar in &bars {
         println!("bar: {bar}");
     }
-    println!("goal: {}", bars::goal(&table));
+    for goal in bars::goals(&table) {
+        println!("goal: {goal}");
+    }
     Ok(bars.iter().all(Bar::is_met))
 }
 
