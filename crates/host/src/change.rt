@@ -4,7 +4,7 @@ ghost use Rattle.gateway.specs.Change.{changed, Fits};
 use gateway::Gateway;
 use gateway::change::Change;
 
-// Writes what a call changes: the last ticket, one key, one exchange. It is told that both places are there, as they are in the change of every call.
+// Writes what admit changes: the last ticket, one key, one exchange. It is told that both places are there, as they are in the change that admit answers.
 pub(crate) fn apply(gateway: &mut Gateway, change: Change)
     requires { ⌜ Fits change ⌝ }
     ensures { λ r. ⌜ now (gateway .exit) ≡ changed change (now (gateway .entry)) ⌝ }
