@@ -16,7 +16,6 @@ use Rattle.keys.specs.Stored.{oneMore, usedState}
 use Rattle.keys.specs.Helpers.{noKey, keyAt}
 use Rattle.gateway.specs.Registry.{Registry, capHolds, withCap, registryFrom}
 use Rattle.gateway.specs.View.{registryOf}
-use Rattle.gateway.specs.Gateway.{freshGateway}
 use Rattle.gateway.specs.Calls.{Call}
 use Rattle.book.specs.Book.{freshBook, bookDoes}
 use Rattle.book.specs.History.{trace, gatewayAfter}

@@ -5,7 +5,7 @@ use mathlib.Core.Bool.{true, false}
 use mathlib.Core.Path.{_≡_, sym, ap, _∙_, subst}
 use mathlib.Core.List.{List, [], _∷_, _++_}
 use native.Mathlib.Omega.{arith}
-use borrow.Author.Tests.{eqb-true, eqb-false, eq-eqb, ne-eqb, le-leb, lt-leb}
+use borrow.Author.Tests.{eqb-true, eqb-false, le-leb, lt-leb}
 use lib.Dec.{eqb, leb}
 use lib.ListN.{length, getD, set, length-set}
 use lib.Seq.{getD-set-other}
@@ -15,13 +15,12 @@ use Rattle.exchange.specs.declared.Exchange.{Exchange}
 use Rattle.exchange.specs.Exchange.{free, isFree}
 use Rattle.exchange.specs.Steps.{Step, next}
 use Rattle.gateway.specs.declared.table.Engine.{Engine}
-use Rattle.gateway.specs.Registry.{tableSize}
 use Rattle.gateway.specs.Engines.{pendingWith}
 use Rattle.gateway.specs.Gateway.{freshGateway, gatewayDoes}
 use Rattle.gateway.specs.View.{pendingIn, isFull}
 use Rattle.gateway.specs.Calls.{Call, admit, onTicket}
 use Rattle.book.specs.History.{final, gatewayAfter, Accepts}
-use Rattle.book.specs.Storage.{placeAfter, NewPlace, FullExactly, ClosedPlaceIsUsedAgain}
+use Rattle.book.specs.Storage.{placeAfter, FullExactly, ClosedPlaceIsUsedAgain}
 use Rattle.book.proofs.Table.{pending-length, full-alike}
 use Rattle.book.proofs.Refinement.{final-append, alike-end}
 use Rattle.book.proofs.Admission.{place-is-free}

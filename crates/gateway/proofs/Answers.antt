@@ -1,6 +1,6 @@
 -- What admit's code computes on the way, and the answers of refused calls.
 -- Assumes nothing.
-use mathlib.Core.Path.{_≡_, refl, sym, ap, _∙_}
+use mathlib.Core.Path.{_≡_, refl, ap, _∙_}
 use mathlib.Core.Bool.{Bool, not}
 use mathlib.Core.List.{List}
 use Prim.Native.Nat.{ℕ, zero, suc, _≤_}
@@ -13,7 +13,7 @@ use Rattle.wire.specs.Bytes.{withFront}
 use Rattle.wire.specs.Helpers.{overwritten}
 use Rattle.wire.specs.Texts.{ascii, headLength, infoLength, infoBytes, requestLabel}
 use Rattle.wire.proofs.Writes.{front-first}
-use Rattle.wire.proofs.Numbers.{unless-refused, not-refused}
+use Rattle.wire.proofs.Numbers.{not-refused}
 use Rattle.request.specs.declared.Request.{Request}
 use Rattle.request.specs.declared.Parsed.{Parsed}
 use Rattle.request.specs.Request.{fieldsOf, infoOf}

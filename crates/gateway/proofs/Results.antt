@@ -34,7 +34,7 @@ use Rattle.gateway.specs.declared.table.Engine.{Engine}
 use Rattle.gateway.specs.declared.change.Change.{Change}
 use Rattle.gateway.specs.declared.AdmitAnswer.{AdmitAnswer}
 use Rattle.gateway.specs.Registry.{admitAnswer, retireAnswer, tableSize}
-use Rattle.gateway.specs.Helpers.{_orElse_, roomRefusal, exchangeAt, admitNumber, admittedChange, inside}
+use Rattle.gateway.specs.Helpers.{exchangeAt, admitNumber, admittedChange, inside}
 use Rattle.gateway.specs.Engines.{placeBy, freePlace, pendingWith, hasNumber}
 use Rattle.gateway.specs.Gateway.{nextTicket, gatewayDoes, gatewayAdmitted, gatewayRetired, gatewayAdmitNumber}
 use Rattle.gateway.specs.View.{registryOf, isFull}

@@ -1,26 +1,22 @@
 -- What the stored keys stand for: how many there are, the key at a place and what it decides, and the reports.
 -- Assumes nothing.
 use mathlib.Core.Path.{_≡_, sym, ap, _∙_}
-use mathlib.Core.Bool.{not}
 use mathlib.Core.List.{List, [], _∷_, _++_, map}
 use Prim.Native.Nat.{ℕ, suc, _+_, _≤_, _<_, min}
 use native.Mathlib.Omega.{arith}
-use borrow.Author.Tests.{leb-false, ltb-true, ltb-false, lt-ltb, le-ltb, le-leb, lt-leb}
-use lib.Dec.{eqb, leb, ltb}
+use borrow.Author.Tests.{ltb-true, ltb-false, lt-ltb, le-ltb}
+use lib.Dec.{ltb}
 use mir.Val.{Val}
 use denote.Laws.{Is}
 use lib.ListN.{length, getD, take, set, length-map}
 use lib.Seq.{take-suc}
-use Rattle.wire.specs.Refusals.{_when_otherwise_}
 use Rattle.wire.proofs.Booleans.{either}
-use Rattle.wire.proofs.Numbers.{not-refused}
-use Rattle.request.specs.declared.Request.{Request}
 use Rattle.keys.specs.declared.KeyState.{KeyState}
 use Rattle.keys.specs.declared.Keys.{Keys}
 use Rattle.keys.specs.declared.KeyReport.{KeyReport}
 use Rattle.keylist.specs.Layout.{mostConfigurations}
-use Rattle.keys.specs.Keys.{Key, offers, reportOf, blankReport, storedReports, keyOf, keysOf, padded}
-use Rattle.keys.specs.Helpers.{noKey, keyAt, keyRefusal, retireRefusalAt}
+use Rattle.keys.specs.Keys.{reportOf, blankReport, storedReports, keyOf, keysOf, padded}
+use Rattle.keys.specs.Helpers.{noKey, keyAt}
 use Rattle.keylist.proofs.Pair
 use Rattle.keys.proofs.KeyState
 use Rattle.keys.proofs.Keys
@@ -37,22 +33,9 @@ full keys values is = sym (length-map (keys .list) (KeyState.the-type .to)) ∙ 
 pub full-pairs : (key : KeyState) (values : List Val) → Is KeyState.the-row key values → length (key .pairs) ≡ 16
 full-pairs key values is = sym (length-map (key .pairs) (Pair.the-type .to)) ∙ is .1 .1 .1 .1 .1 .1 .1 .0 .1 .0 .1
 
--- the refusals that a key decides
-abbrev pub keyTests : ℕ → Key → Request → ℕ
-keyTests cap key request =
-    5 when not (eqb (key .kem) (request .kem)) otherwise
-    6 when not (offers (request .kdf) (request .aead) key) otherwise
-    7 when key .retired otherwise
-    8 when leb cap (key .count) otherwise
-    0
-
 -- the reports of the first keys of an array
 abbrev pub reportsOf : ℕ → List KeyState → List KeyReport
 reportsOf count list = storedReports (map keyOf (take count list))
-
--- where a chain that asks first for the key gives no refusal, there is a key
-inside : (number place rest : ℕ) → (4 when leb number place otherwise rest) ≡ 0 → place < number
-inside number place rest e = leb-false number place (not-refused 3 (leb number place) rest e .0)
 
 module _ (keys : Keys) (whole : length (keys .list) ≡ 16) where
   pub length-keys : length (keysOf keys) ≡ min (keys .count) 16
@@ -73,26 +56,6 @@ module _ (keys : Keys) (whole : length (keys .list) ≡ 16) where
   unfolding keysOf
   key-at place h =
       stored-at keyOf (keys .count) (keys .list) place unread noKey (omega (arith, length-keys)) (omega (arith, length-keys))
-
-  -- there is no key at the place
-  pub refusal-out : (cap place : ℕ) (request : Request) → length (keysOf keys) ≤ place → keyRefusal cap (keysOf keys) place request ≡ 4
-  unfolding keyRefusal
-  refusal-out cap place request h = rw (le-leb (length (keysOf keys)) place h)
-
-  -- there is one, and it decides
-  pub refusal-there : (cap place : ℕ) (request : Request) → place < length (keysOf keys)
-      → keyRefusal cap (keysOf keys) place request ≡ keyTests cap (keyOf (getD (keys .list) place unread)) request
-  unfolding keyRefusal
-  refusal-there cap place request h = rw (lt-leb (length (keysOf keys)) place h, key-at place h)
-
-  -- where a use of a key, or its retirement, is not refused, its place is one of the array's
-  pub place-used : (cap place : ℕ) (request : Request) → keyRefusal cap (keysOf keys) place request ≡ 0 → place < 16
-  unfolding keyRefusal
-  place-used cap place request e = omega (arith, length-keys, inside (length (keysOf keys)) place _ e)
-
-  pub place-retired : (place : ℕ) → retireRefusalAt (keysOf keys) place ≡ 0 → place < 16
-  unfolding retireRefusalAt
-  place-retired place e = omega (arith, length-keys, inside (length (keysOf keys)) place _ e)
 
   -- one report more
   pub reports-more : (at : ℕ) → at < 16

@@ -1,12 +1,11 @@
 -- `request::read` meets its contract: the fields, which an accepted request is long enough for, and none on refusal.
 -- Assumes nothing.
-use mathlib.Core.Path.{_≡_, refl, sym, ap, _∙_}
-use Prim.Native.Nat.{ℕ, _≤_}
+use mathlib.Core.Path.{_≡_, sym, ap, _∙_}
+use Prim.Native.Nat.{_≤_}
 use native.Mathlib.Omega.{arith}
 use lib.ListN.{length}
 use Rattle.wire.specs.Texts.{longestRequest}
 use Rattle.wire.proofs.Numbers.{unless-refused}
-use Rattle.algorithms.specs.declared.Size.{Size}
 use Rattle.algorithms.specs.Sizes.{knownKem, shortestRequest}
 use Rattle.algorithms.specs.Answers.{sizeOf}
 use Rattle.request.specs.Request.{encEnd}

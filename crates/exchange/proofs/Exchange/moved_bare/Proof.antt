@@ -1,6 +1,6 @@
 -- `exchange::Exchange::moved_bare` meets its contract: the next state, and all as it was where a number refuses.
 -- Assumes nothing.
-use mathlib.Core.Path.{_≡_, sym, ap, _∙_}
+use mathlib.Core.Path.{sym, ap, _∙_}
 use borrow.Author.Needs.{needs}
 use Rattle.wire.proofs.Numbers.{unless-refused}
 use Rattle.exchange.specs.declared.StepAnswer.{StepAnswer}

@@ -1,8 +1,8 @@
 -- `gateway::Gateway::step` meets its contract: what the call leaves of the exchange is put in its place.
 -- Assumes nothing.
-use mathlib.Core.Path.{_≡_, refl, sym, ap, _∙_}
+use mathlib.Core.Path.{ap, _∙_}
 use borrow.Author.Needs.{needs}
-use Rattle.exchange.specs.Steps.{step, buffer}
+use Rattle.exchange.specs.Steps.{step}
 use Rattle.gateway.specs.Calls.{ofStep}
 use Rattle.gateway.proofs.Lengths.{full-table}
 use Rattle.gateway.proofs.Results.{stepped, put-at}

@@ -1,7 +1,7 @@
 -- `gateway::table::find` meets its contract: at home where the engine takes it, else where the first is. The loop's invariant: no place before has the
 -- number.
 -- Assumes nothing.
-use mathlib.Core.Path.{_≡_, refl, sym, ap, _∙_}
+use mathlib.Core.Path.{_≡_, refl, sym, _∙_}
 use mathlib.Core.Bool.{false}
 use Prim.Native.Nat.{ℕ, _-_, _%_, _≤_, _<_}
 use native.Mathlib.Omega.{arith}
@@ -13,7 +13,6 @@ use Rattle.wire.specs.Search.{firstPlace}
 use Rattle.wire.proofs.Matches.{first-at, first-none}
 use Rattle.exchange.specs.Exchange.{free}
 use Rattle.gateway.specs.Engines.{placeBy, hasNumber}
-use Rattle.gateway.specs.Helpers.{inside}
 use Rattle.gateway.specs.Registry.{tableSize}
 use Rattle.gateway.proofs.Places.{home-taken, home-passed}
 use Rattle.gateway.proofs.table.find.Statement.{statement}
