@@ -136,3 +136,18 @@ func (g *Gateway) Report() Report {
 	}
 	return report
 }
+
+// PlainFind is the search alone, for measuring what it costs: the first place of the table whose ticket is this one, by a walk, or 128. A
+// free place has the ticket 0.
+func (g *Gateway) PlainFind(ticket Ticket) int {
+	g.lock.Lock()
+	defer g.lock.Unlock()
+	return int(C.sealwax_plain_find(&g.state, C.uint64_t(ticket)))
+}
+
+// Find is the same by home, as the calls search: place near % 128 is looked at first, and the walk is made where the ticket is not there.
+func (g *Gateway) Find(ticket, near Ticket) int {
+	g.lock.Lock()
+	defer g.lock.Unlock()
+	return int(C.sealwax_find(&g.state, C.uint64_t(ticket), C.uint64_t(near)))
+}

