@@ -33,17 +33,19 @@ extern "C" {
 #endif
 
 /* Sizes in bytes of what the library writes: info; the longest salt, enc and nonce; the longest head, 7 bytes and enc; the exporter
-   context; the longest key list, 16 configurations of 204 bytes. */
+   context; the longest key list that is written, 16 configurations of 204 bytes. */
 #define SEALWAX_INFO_LENGTH 29
 #define SEALWAX_LONGEST_SALT (133 + 32)
 #define SEALWAX_LONGEST_HEAD (7 + 133)
 #define SEALWAX_EXPORTER_CONTEXT_LENGTH 22
 #define SEALWAX_LONGEST_LIST (16 * 204)
 
-/* The most bytes that are accepted: of a request, of a plain response, and of a response with its nonce and tag. */
+/* The most bytes that are accepted: of a request, of a plain response, of a response with its nonce and tag, and of a key list, in which a
+   configuration that is skipped may have as many as its two length bytes can say. */
 #define SEALWAX_LONGEST_REQUEST 65536
 #define SEALWAX_LONGEST_PLAIN 65536
 #define SEALWAX_LONGEST_RESPONSE (32 + 65536 + 16)
+#define SEALWAX_LONGEST_LIST_READ (16 * (2 + 65535))
 
 /* The most keys of a gateway. */
 #define SEALWAX_MOST_KEYS 16
@@ -144,7 +146,8 @@ typedef struct sealwax_report_result {
 
 typedef struct sealwax_check_result {
     sealwax_outcome outcome;
-    size_t configurations;
+    size_t configurations; /* that were read */
+    size_t skipped;        /* of an unknown KEM */
 } sealwax_check_result;
 
 typedef struct sealwax_key_result {
@@ -206,8 +209,9 @@ typedef struct sealwax_sizes_result {
 /* ---- the gateway: setup and the six calls */
 
 /*
- * Makes a fresh gateway of a key list and a cap, the uses allowed per key, 1 to 1,000,000,000. Refusals: 15, 17; the gateway is then
- * one without keys, which refuses every request. What the memory held before is gone either way: to keep a gateway that is in use, set
+ * Makes a fresh gateway of a key list and a cap, the uses allowed per key, 1 to 1,000,000,000. A configuration that is skipped (see
+ * sealwax_check) makes no key; where all are, the gateway has none. Refusals: 15, 17; the gateway is then one without keys, which refuses
+ * every request. What the memory held before is gone either way: to keep a gateway that is in use, set
  * up another one and change over where that was accepted.
  */
 sealwax_setup_result sealwax_setup(sealwax_gateway *gateway, const uint8_t *list, size_t list_length, uint64_t cap);
@@ -253,7 +257,11 @@ size_t sealwax_find(sealwax_gateway *gateway, uint64_t ticket, uint64_t near);
 
 /* ---- key lists */
 
-/* Whether a key list is good. Refusal: 15. */
+/*
+ * Whether a key list is good, and how many of its configurations were read and how many skipped. A configuration of at least 3 bytes that
+ * lies whole in the list and has an unknown KEM is skipped: its inside is not read and its key id not taken. A host may log how many, so
+ * that somebody sees that a list has a KEM which this release does not know. Refusal: 15.
+ */
 sealwax_check_result sealwax_check(const uint8_t *list, size_t list_length);
 
 /* Where the public key of a key id lies in a list. Refusals: 15, 4. */

@@ -56,7 +56,7 @@ static void setups(void) {
     sealwax_report_result report = sealwax_report(&gateway);
     EXPECT(report.outcome.number == 0 && report.key_count == 0 && report.last_ticket == 0 && report.pending == 0);
     fresh(1);
-    EXPECT(sealwax_check(list, 43).configurations == 1);
+    EXPECT(sealwax_check(list, 43).configurations == 1 && sealwax_check(list, 43).skipped == 0);
     EXPECT(sealwax_check(list, 42).outcome.number == SEALWAX_BAD_KEY_LIST);
     sealwax_key_result key = sealwax_key(list, 43, 7);
     EXPECT(key.start == 5 && key.end == 37);
@@ -201,8 +201,42 @@ static void longest_list(void) {
     EXPECT(result.outcome.number == SEALWAX_BAD_KEY_LIST && result.outcome.place == 15 * 204);
 }
 
+/* 02, A1: a configuration of an unknown KEM, here of 3 bytes and with the key id of the one that is read, is skipped. */
+static void skipped(void) {
+    static const uint8_t unknown[5] = {0, 3, 7, 0, 0x30};
+    uint8_t both[48];
+    memcpy(both, unknown, 5);
+    memcpy(both + 5, list, 43);
+    sealwax_check_result check = sealwax_check(both, sizeof both);
+    EXPECT(check.outcome.number == 0 && check.configurations == 1 && check.skipped == 1);
+    sealwax_key_result key = sealwax_key(both, sizeof both, 7);
+    EXPECT(key.outcome.number == 0 && key.start == 10 && key.end == 42);
+    EXPECT(sealwax_setup(&gateway, both, sizeof both, 1).keys == 1);
+    EXPECT(admit(55).ticket == 1);
+    /* all are skipped: a gateway without keys */
+    check = sealwax_check(unknown, 5);
+    EXPECT(check.outcome.number == 0 && check.configurations == 0 && check.skipped == 1);
+    sealwax_setup_result answer = sealwax_setup(&gateway, unknown, 5, 1000);
+    EXPECT(answer.outcome.number == 0 && answer.keys == 0);
+    EXPECT(sealwax_report(&gateway).key_count == 0 && admit(55).outcome.number == SEALWAX_NO_SUCH_KEY);
+    EXPECT(sealwax_key(unknown, 5, 7).outcome.number == SEALWAX_NO_SUCH_KEY);
+    uint16_t kems[2] = {0x0030, 0x0020}, pairs[2] = {1, 3};
+    EXPECT(sealwax_choose(unknown, 5, kems, 2, pairs, 2).outcome.number == SEALWAX_NO_USABLE_CONFIGURATION);
+    /* the longest list that can be good: sixteen of the largest length; one that is skipped is refused in the seventeenth place */
+    static uint8_t longest[SEALWAX_LONGEST_LIST_READ + 5];
+    for (size_t at = 0; at < sizeof longest - 5; at += 65537) {
+        longest[at] = longest[at + 1] = 0xff;
+    }
+    check = sealwax_check(longest, SEALWAX_LONGEST_LIST_READ);
+    EXPECT(check.outcome.number == 0 && check.configurations == 0 && check.skipped == 16);
+    memcpy(longest + SEALWAX_LONGEST_LIST_READ, unknown, 5);
+    check = sealwax_check(longest, sizeof longest);
+    EXPECT(check.outcome.number == SEALWAX_BAD_KEY_LIST && check.outcome.place == SEALWAX_LONGEST_LIST_READ && check.skipped == 0);
+}
+
 int main(void) {
     setups();
+    skipped();
     admissions();
     steps();
     searches();

@@ -1,7 +1,8 @@
-//! Answer lines, written: the answers of REPLAY.md.
+//! Answer lines, written: the answers of REPLAY.md and REQUESTS.md.
 
 use crate::client::Chosen;
 use crate::keeper::{Admitted, KeyReport, Opening, Report};
+use crate::key_list::KeyList;
 use crate::pending::Engine;
 use crate::refusal::{is_key_problem, status, Refusal};
 
@@ -90,6 +91,14 @@ pub fn report(report: &Report) -> String {
 fn key_report(key: &KeyReport) -> String {
     let state = if key.retired { "retired" } else { "live" };
     format!("{}:{}:{}", key.id, key.count, state)
+}
+
+pub fn good(read: &KeyList) -> String {
+    format!(
+        "good configurations={} skipped={}",
+        read.configurations.len(),
+        read.skipped
+    )
 }
 
 pub fn chosen(chosen: &Chosen) -> String {

@@ -113,7 +113,7 @@ impl Keeper for Book {
         let mut book = Book::after_refused_setup();
         let configurations = match read_list(list) {
             Err(refusal) => return (book, Err(refusal)),
-            Ok(configurations) => configurations,
+            Ok(read) => read.configurations,
         };
         if !(1..=LARGEST_CAP).contains(&cap) {
             return (book, Err(refusal(17)));
@@ -244,6 +244,7 @@ mod tests {
     use super::*;
     use crate::call::{read_line, Line};
     use crate::generate::generate;
+    use crate::key_list::tests::{edge_list, unknown};
     use crate::perform::perform;
 
     /// Calls in the order given, refused ones and reports too.
@@ -257,6 +258,23 @@ mod tests {
             if let Line::Call(call) = read_line(line) {
                 assert_eq!(perform(&mut gateway, &call), perform(&mut book, &call));
                 assert_eq!(book.difference(&gateway), None);
+            }
+        }
+    }
+    /// Book and gateway have the cap that was given, where all are skipped too, and 1 where the
+    /// setup was refused.
+    #[test]
+    fn caps() {
+        let skipped = unknown(7, 0x0022, 3);
+        let lists = [
+            edge_list(),
+            skipped.clone(),
+            [edge_list(), skipped].concat(),
+        ];
+        for list in lists {
+            for (cap, kept) in [(2, 2), (LARGEST_CAP, LARGEST_CAP), (0, 1), (u64::MAX, 1)] {
+                assert_eq!(Book::setup(cap, &list).0.cap, kept);
+                assert_eq!(Gateway::setup(cap, &list).0.cap, kept);
             }
         }
     }

@@ -20,7 +20,7 @@ pub struct Chosen {
 
 /// Choose. Order: 15, 13 (pair list of odd length), 16.
 pub fn choose(list: &[u8], kems: &[u16], pairs: &[u16]) -> Result<Chosen, Refusal> {
-    let configurations = read_list(list)?;
+    let configurations = read_list(list)?.configurations;
     if pairs.len() % 2 != 0 {
         return Err(refusal(13));
     }
@@ -114,7 +114,7 @@ mod tests {
     use super::*;
     use crate::answer::hex;
     use crate::call::read_bytes;
-    use crate::key_list::tests::{configuration, edge_list};
+    use crate::key_list::tests::{configuration, edge_list, unknown};
     use crate::refusal::bad_list;
 
     fn two_configurations() -> Vec<u8> {
@@ -151,6 +151,30 @@ mod tests {
         // KDF and AEAD by turns: (1, 2) is listed, (2, 1) is not.
         assert_eq!(choose(&list, &[0x20], &[2, 1]), Err(refusal(16)));
         assert!(choose(&edge_list(), &[0x20], &[1, 3]).is_ok());
+    }
+
+    /// "A list in which all are skipped ...; choose answers 16."
+    #[test]
+    fn choose_where_all_are_skipped() {
+        let list = [unknown(7, 0x22, 41), unknown(8, 0x30, 3)].concat();
+        // A KEM that the client knows is none "unknown above never match".
+        let kems = [0x20, 0x22, 0x30];
+        assert_eq!(choose(&list, &kems, &[1, 3]), Err(refusal(16)));
+        assert_eq!(choose(&list, &[], &[]), Err(refusal(16)));
+        assert_eq!(choose(&list, &kems, &[1, 3, 1]), Err(refusal(13)));
+        let cut = &list[..list.len() - 1];
+        assert_eq!(choose(cut, &kems, &[1, 3, 1]), Err(bad_list(43)));
+    }
+
+    #[test]
+    fn choose_steps_over_skipped_ones() {
+        // The first would be the client's choice, had it a KEM that is known.
+        let skipped = configuration(7, 0x0022, 32, &[0, 1, 0, 3]);
+        let list = [&skipped[..], &edge_list(), &skipped].concat();
+        let chosen = choose(&list, &[0x22, 0x20], &[1, 3]).unwrap();
+        assert_eq!((chosen.key_id, chosen.kem), (7, 0x0020));
+        assert_eq!(chosen.public_key, 48..80);
+        assert_eq!(choose(&list, &[0x22], &[1, 3]), Err(refusal(16)));
     }
 
     #[test]

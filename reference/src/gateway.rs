@@ -111,14 +111,15 @@ impl Exchange {
 
 impl Keeper for Gateway {
     fn setup(cap: u64, list: &[u8]) -> (Gateway, Result<usize, Refusal>) {
-        let configurations = match read_list(list) {
-            Ok(configurations) => configurations,
+        let read = match read_list(list) {
+            Ok(read) => read,
             Err(refusal) => return (Gateway::without_keys(), Err(refusal)),
         };
         if !(1..=LARGEST_CAP).contains(&cap) {
             return (Gateway::without_keys(), Err(refusal(17)));
         }
-        let gateway = Gateway::fresh(cap, configurations);
+        // "A list in which all are skipped sets up a gateway without keys": its cap is as given.
+        let gateway = Gateway::fresh(cap, read.configurations);
         let keys = gateway.keys.len();
         (gateway, Ok(keys))
     }
@@ -232,7 +233,7 @@ mod tests {
     use super::*;
     use crate::answer::hex;
     use crate::call::read_bytes;
-    use crate::key_list::tests::{configuration, edge_list};
+    use crate::key_list::tests::{configuration, edge_list, unknown};
     use crate::refusal::bad_list;
     use crate::request::tests::request;
 
@@ -268,6 +269,53 @@ mod tests {
         }
         assert_eq!(Gateway::setup(1, &edge_list()).1, Ok(1));
         assert_eq!(Gateway::setup(1_000_000_000, &edge_list()).1, Ok(1));
+    }
+
+    /// "A list in which all are skipped sets up a gateway without keys": the cap is the one given.
+    #[test]
+    fn setup_where_all_are_skipped() {
+        let list = [unknown(7, 0x22, 41), unknown(7, 0x30, 3)].concat();
+        for cap in [1, 2, 1_000_000_000] {
+            let (mut gateway, answer) = Gateway::setup(cap, &list);
+            assert_eq!(answer, Ok(0));
+            assert_eq!((gateway.cap, gateway.last_ticket), (cap, 0));
+            assert!(gateway.keys.is_empty());
+            // "Requests naming that KEM still get 3."
+            assert_eq!(admit(&mut gateway, &request(7, 0x22, 1, 3, 55)), Err(3));
+            assert_eq!(admit(&mut gateway, &edge_request()), Err(4));
+            assert_eq!(gateway.retire(7), Err(refusal(4)));
+            for ticket in [0, 1] {
+                assert_eq!(gateway.open(ticket, true, 0), Err(refusal(11)));
+                assert_eq!(respond(&mut gateway, ticket), Err(refusal(11)));
+                assert_eq!(gateway.abandon(ticket), Err(refusal(11)));
+            }
+            let report = gateway.report();
+            assert_eq!((report.last_ticket, report.pending), (0, 0));
+            assert!(report.keys.is_empty());
+        }
+        // 15 before 17, as in any list.
+        for cap in [0, 1_000_000_001] {
+            let (gateway, answer) = Gateway::setup(cap, &list);
+            assert_eq!(answer, Err(refusal(17)));
+            assert_eq!(gateway.cap, 1);
+            let cut = &list[..list.len() - 1];
+            assert_eq!(Gateway::setup(cap, cut).1, Err(bad_list(43)));
+        }
+    }
+
+    #[test]
+    fn setup_where_one_is_skipped() {
+        let other = configuration(9, 0x0020, 32, &[0, 1, 0, 3]);
+        // The skipped one has the key id of the last.
+        let list = [edge_list(), unknown(9, 0x22, 41), other].concat();
+        let (mut gateway, answer) = Gateway::setup(5, &list);
+        assert_eq!((answer, gateway.cap), (Ok(2), 5));
+        let ids: Vec<u8> = gateway.keys.iter().map(|key| key.id).collect();
+        assert_eq!(ids, [7, 9]);
+        assert_eq!(admit(&mut gateway, &request(9, 0x22, 1, 3, 55)), Err(3));
+        assert_eq!(admit(&mut gateway, &edge_request()).unwrap().ticket, 1);
+        let to_other = request(9, 0x20, 1, 3, 55);
+        assert_eq!(admit(&mut gateway, &to_other).unwrap().ticket, 2);
     }
 
     #[test]

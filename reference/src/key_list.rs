@@ -1,4 +1,4 @@
-//! Key lists, read: 01, "Layouts", key list, and the key reader.
+//! Key lists, read: 01, "Layouts", key list, and the key reader; 02, A1.
 
 use crate::algorithms::{nenc, Pair};
 use crate::refusal::{bad_list, refusal, Refusal};
@@ -8,6 +8,17 @@ use std::ops::Range;
 pub const MOST_CONFIGURATIONS: usize = 16;
 /// "S is a multiple of 4, at least 4; the house limit is 64".
 const LONGEST_PAIRS: usize = 64;
+/// "length L (2 bytes)"
+pub const LENGTH_SIZE: usize = 2;
+
+/// A good list.
+#[derive(Clone, Debug, Default, PartialEq, Eq)]
+pub struct KeyList {
+    /// Those that were read, in list order.
+    pub configurations: Vec<Configuration>,
+    /// The number of those that were skipped.
+    pub skipped: usize,
+}
 
 /// One configuration as it stands in a list.
 #[derive(Clone, Debug, PartialEq, Eq)]
@@ -17,49 +28,79 @@ pub struct Configuration {
     /// Where the public key starts and ends in the list.
     pub public_key: Range<usize>,
     pub pairs: Vec<Pair>,
-    /// Where the configuration ends in the list.
-    end: usize,
 }
 
-/// All configurations of a list, or 15 at the first bad one.
-pub fn read_list(list: &[u8]) -> Result<Vec<Configuration>, Refusal> {
+impl KeyList {
+    /// The configuration with that key id. A skipped one's is "not counted as taken".
+    pub fn with_id(&self, id: u8) -> Option<&Configuration> {
+        let mut configurations = self.configurations.iter();
+        configurations.find(|configuration| configuration.id == id)
+    }
+
+    /// A skipped one "counts towards the sixteen".
+    pub fn count(&self) -> usize {
+        self.configurations.len() + self.skipped
+    }
+}
+
+/// The configurations of a list, or 15 at the first bad one.
+pub fn read_list(list: &[u8]) -> Result<KeyList, Refusal> {
     if list.is_empty() {
         return Err(bad_list(0));
     }
-    let mut read: Vec<Configuration> = Vec::new();
+    let mut read = KeyList::default();
     let mut start = 0;
     while start < list.len() {
-        let configuration = read_configuration(list, start).ok_or_else(|| bad_list(start))?;
-        let id_twice = read.iter().any(|other| other.id == configuration.id);
+        let bad = bad_list(start);
         // "a seventeenth is bad"
-        if id_twice || read.len() == MOST_CONFIGURATIONS {
-            return Err(bad_list(start));
+        if read.count() == MOST_CONFIGURATIONS {
+            return Err(bad);
         }
-        start = configuration.end;
-        read.push(configuration);
+        let inside = inside_at(list, start).ok_or(bad)?;
+        let kem = kem_of(inside).ok_or(bad)?;
+        match nenc(kem) {
+            // "has an unknown KEM is now skipped, its inside unread"
+            None => read.skipped += 1,
+            Some(npk) => {
+                let inside_start = start + LENGTH_SIZE;
+                let configuration = read_inside(inside, inside_start, kem, npk).ok_or(bad)?;
+                // "no key id twice"
+                if read.with_id(configuration.id).is_some() {
+                    return Err(bad);
+                }
+                read.configurations.push(configuration);
+            }
+        }
+        start += LENGTH_SIZE + inside.len();
     }
     Ok(read)
 }
 
-/// The configuration whose length stands at `start`, if it keeps the layout.
-fn read_configuration(list: &[u8], start: usize) -> Option<Configuration> {
-    let body_start = start + 2;
-    let end = body_start + usize::from(number_at(list, start)?);
-    let body = list.get(body_start..end)?;
-    let kem = number_at(body, 1)?;
-    let npk = nenc(kem)?;
-    let pairs_length = usize::from(number_at(body, 3 + npk)?);
-    let pairs = &body[5 + npk..];
+/// The L bytes behind the length at `start`, if the configuration "lies whole in the list".
+pub fn inside_at(list: &[u8], start: usize) -> Option<&[u8]> {
+    let length = usize::from(number_at(list, start)?);
+    list[start + LENGTH_SIZE..].get(..length)
+}
+
+/// The KEM of a configuration "of at least 3 bytes": the two behind its key id.
+pub fn kem_of(inside: &[u8]) -> Option<u16> {
+    number_at(inside, 1)
+}
+
+/// A configuration of a known KEM, if its inside, which starts there in the list, keeps the
+/// layout.
+fn read_inside(inside: &[u8], start: usize, kem: u16, npk: usize) -> Option<Configuration> {
+    let pairs_length = usize::from(number_at(inside, 3 + npk)?);
+    let pairs = &inside[5 + npk..];
     // "L = 5 + Npk + S"
     if pairs.len() != pairs_length || !pairs_length_is_good(pairs_length) {
         return None;
     }
     Some(Configuration {
-        id: body[0],
+        id: inside[0],
         kem,
-        public_key: body_start + 3..body_start + 3 + npk,
+        public_key: start + 3..start + 3 + npk,
         pairs: pairs.chunks(4).map(read_pair).collect(),
-        end,
     })
 }
 
@@ -83,11 +124,9 @@ pub fn number_at(bytes: &[u8], place: usize) -> Option<u16> {
 
 /// The key reader: "hands back the public key as a part of the lent list". Order: 15, 4.
 pub fn public_key(list: &[u8], id: u8) -> Result<&[u8], Refusal> {
-    read_list(list)?
-        .into_iter()
-        .find(|configuration| configuration.id == id)
-        .map(|configuration| &list[configuration.public_key])
-        .ok_or_else(|| refusal(4))
+    let read = read_list(list)?;
+    let configuration = read.with_id(id).ok_or_else(|| refusal(4))?;
+    Ok(&list[configuration.public_key.clone()])
 }
 
 #[cfg(test)]
@@ -114,6 +153,19 @@ pub mod tests {
         bytes
     }
 
+    /// A configuration of that length with an unknown KEM.
+    pub fn unknown(id: u8, kem: u16, length: u16) -> Vec<u8> {
+        let [high, low] = kem.to_be_bytes();
+        with_length(length, &[id, high, low])
+    }
+
+    /// A length and as many bytes, those given first.
+    fn with_length(length: u16, first: &[u8]) -> Vec<u8> {
+        let mut inside = first.to_vec();
+        inside.resize(usize::from(length), 0x44);
+        [&length.to_be_bytes()[..], &inside].concat()
+    }
+
     fn place(list: &[u8]) -> Option<usize> {
         match read_list(list) {
             Ok(_) => None,
@@ -128,8 +180,11 @@ pub mod tests {
     fn the_edge_list() {
         let list = edge_list();
         assert_eq!(list.len(), 43);
-        let read = read_list(&list).unwrap();
-        assert_eq!(read.len(), 1);
+        let KeyList {
+            configurations: read,
+            skipped,
+        } = read_list(&list).unwrap();
+        assert_eq!((read.len(), skipped), (1, 0));
         assert_eq!((read[0].id, read[0].kem), (7, 0x0020));
         assert_eq!(read[0].public_key, 5..37);
         assert_eq!(read[0].pairs, [Pair { kdf: 1, aead: 3 }]);
@@ -147,7 +202,7 @@ pub mod tests {
         // The RFC shows the configuration's 45 bytes without their length.
         let text = format!("002d010020{key}00080001000100010003");
         let list = crate::call::read_bytes(text.as_bytes(), 70_000).unwrap();
-        let read = read_list(&list).unwrap();
+        let read = read_list(&list).unwrap().configurations;
         assert_eq!((read[0].id, read[0].kem), (1, 0x0020));
         let pairs = [Pair { kdf: 1, aead: 1 }, Pair { kdf: 1, aead: 3 }];
         assert_eq!(read[0].pairs, pairs);
@@ -198,7 +253,6 @@ pub mod tests {
             assert_eq!(place(&configuration(0, kem, npk - 1, &[0; 4])), Some(0));
             assert_eq!(place(&configuration(0, kem, npk + 1, &[0; 4])), Some(0));
         }
-        assert_eq!(place(&configuration(0, 0x0030, 32, &[0; 4])), Some(0));
     }
 
     #[test]
@@ -208,18 +262,23 @@ pub mod tests {
                 .flat_map(|id| configuration(id, 0x0020, 32, &[0; 4]))
                 .collect()
         };
-        assert_eq!(read_list(&of(16)).unwrap().len(), 16);
+        assert_eq!(read_list(&of(16)).unwrap().configurations.len(), 16);
         assert_eq!(place(&of(17)), Some(16 * 43));
     }
 
     #[test]
     fn the_first_bad_configuration_counts() {
         let good = configuration(1, 0x0020, 32, &[0; 4]);
-        let unknown_kem = configuration(2, 0x0022, 32, &[0; 4]);
-        let list = [good.clone(), unknown_kem.clone(), good.clone()].concat();
+        let bad = configuration(2, 0x0020, 33, &[0; 4]);
+        let skipped = unknown(2, 0x0022, 9);
+        let list = [good.clone(), bad.clone(), good.clone()].concat();
         assert_eq!(place(&list), Some(43));
-        let list = [good.clone(), good, unknown_kem].concat();
+        let list = [good.clone(), good.clone(), bad.clone()].concat();
         assert_eq!(place(&list), Some(43));
+        let list = [good.clone(), skipped.clone(), good, bad.clone()].concat();
+        assert_eq!(place(&list), Some(43 + 11));
+        let list = [skipped.clone(), bad, skipped].concat();
+        assert_eq!(place(&list), Some(11));
     }
 
     #[test]
@@ -228,5 +287,228 @@ pub mod tests {
         assert_eq!(public_key(&list, 7), Ok(&[0x11; 32][..]));
         assert_eq!(public_key(&list, 8), Err(refusal(4)));
         assert_eq!(public_key(&list[..42], 8), Err(bad_list(0)));
+    }
+
+    /// Ids and where their public keys start, and how many were skipped.
+    fn read(list: &[u8]) -> (Vec<(u8, usize)>, usize) {
+        let read = read_list(list).unwrap();
+        let configurations = read.configurations.iter();
+        let keys = configurations.map(|c| (c.id, c.public_key.start));
+        (keys.collect(), read.skipped)
+    }
+
+    #[test]
+    fn skipped_at_every_place() {
+        let (one, other) = (configuration(1, 32, 32, &[0; 4]), edge_list());
+        let skipped = unknown(9, 0x0030, 20);
+        let list = [&skipped[..], &one, &other].concat();
+        assert_eq!(read(&list), (vec![(1, 27), (7, 70)], 1));
+        let list = [&one[..], &skipped, &other].concat();
+        assert_eq!(read(&list), (vec![(1, 5), (7, 70)], 1));
+        let list = [&one[..], &other, &skipped].concat();
+        assert_eq!(read(&list), (vec![(1, 5), (7, 48)], 1));
+        let list = [&skipped[..], &one, &skipped, &skipped, &other, &skipped].concat();
+        assert_eq!(read(&list), (vec![(1, 27), (7, 114)], 4));
+    }
+
+    /// "of at least 3 bytes"
+    #[test]
+    fn three_bytes_are_enough() {
+        assert_eq!(read(&[0, 3, 9, 0, 0x22]), (vec![], 1));
+        let three = unknown(9, 0x0022, 3);
+        let list = [&three[..], &edge_list(), &three].concat();
+        assert_eq!(read(&list), (vec![(7, 10)], 2));
+    }
+
+    #[test]
+    fn below_three_bytes_is_bad() {
+        let good = edge_list();
+        for length in 0..3 {
+            let short = with_length(length, &[9, 0, 0x22]);
+            let short = &short[..2 + usize::from(length)];
+            assert_eq!(place(short), Some(0));
+            // Not even where a KEM could be made up from what follows.
+            for next in [0x22, 0x20, 0xff] {
+                assert_eq!(place(&[short, &[next; 90]].concat()), Some(0));
+            }
+            assert_eq!(place(&[short, &good].concat()), Some(0));
+            assert_eq!(place(&[&good[..], short].concat()), Some(43));
+            let list = [&unknown(9, 0x22, 3), short, &good].concat();
+            assert_eq!(place(&list), Some(5));
+        }
+    }
+
+    /// "that lies whole in the list"
+    #[test]
+    fn a_cut_one_is_bad() {
+        let (good, skipped) = (edge_list(), unknown(9, 0x0022, 40));
+        let list = [&good[..], &skipped].concat();
+        assert_eq!(place(&list[..43]), None);
+        for length in 44..list.len() {
+            assert_eq!(place(&list[..length]), Some(43));
+        }
+        assert_eq!(place(&list), None);
+        for length in 1..skipped.len() {
+            assert_eq!(place(&skipped[..length]), Some(0));
+        }
+    }
+
+    #[test]
+    fn a_length_that_takes_more_than_its_own() {
+        let good = edge_list();
+        for (length, expected) in [
+            (3, Ok((vec![(7, 10)], 1))),
+            // One byte of the next, or the next whole, which is then inside.
+            (4, Err(Some(6))),
+            (3 + 43, Ok((vec![], 1))),
+            (3 + 44, Err(Some(0))),
+            (u16::MAX, Err(Some(0))),
+        ] {
+            let mut list = [&[0, 0, 9, 0, 0x22][..], &good].concat();
+            list[..2].copy_from_slice(&length.to_be_bytes());
+            match expected {
+                Ok(expected) => assert_eq!(read(&list), expected),
+                Err(expected) => assert_eq!(place(&list), expected),
+            }
+        }
+    }
+
+    /// "its key id not counted as taken"
+    #[test]
+    fn the_id_of_a_skipped_one_is_free() {
+        let (good, twin) = (edge_list(), unknown(7, 0x0022, 41));
+        assert_eq!(read(&[&good[..], &twin].concat()), (vec![(7, 5)], 1));
+        assert_eq!(read(&[&twin[..], &good].concat()), (vec![(7, 48)], 1));
+        let list = [&twin[..], &twin, &good, &twin].concat();
+        assert_eq!(read(&list), (vec![(7, 91)], 3));
+        // Those that are read take theirs, whatever is skipped between them.
+        let list = [&good[..], &twin, &good].concat();
+        assert_eq!(place(&list), Some(86));
+        let list = [&twin[..], &good, &unknown(8, 0x0022, 3), &good].concat();
+        assert_eq!(place(&list), Some(91));
+    }
+
+    /// "It counts towards the sixteen."
+    #[test]
+    fn sixteen_with_skipped_ones() {
+        let of = |skipped: &[u8], count: u8| -> Vec<u8> {
+            let one = |id| match skipped.contains(&id) {
+                true => unknown(id, 0x0022, 41),
+                false => configuration(id, 0x0020, 32, &[0; 4]),
+            };
+            (0..count).flat_map(one).collect()
+        };
+        let all: Vec<u8> = (0..17).collect();
+        let places = [
+            &all[..],
+            &all[..16],
+            &all[16..],
+            &all[15..],
+            &[0],
+            &[2, 3, 16],
+        ];
+        for (skipped, in_sixteen) in places.into_iter().zip([16, 16, 0, 1, 1, 2]) {
+            let sixteen = of(skipped, 16);
+            let read = read_list(&sixteen).unwrap();
+            assert_eq!((read.count(), read.skipped), (16, in_sixteen));
+            assert_eq!(place(&of(skipped, 17)), Some(16 * 43));
+            // Whatever stands in the seventeenth place is bad there.
+            for more in [&[0][..], &[0, 3], &[0, 3, 9, 0, 0x22], &[0, 0]] {
+                assert_eq!(place(&[&sixteen, more].concat()), Some(16 * 43));
+            }
+        }
+    }
+
+    #[test]
+    fn all_are_skipped() {
+        for count in 1..=16 {
+            let list = unknown(7, 0x0022, 10).repeat(count);
+            assert_eq!(read(&list), (vec![], count));
+            assert_eq!(public_key(&list, 7), Err(refusal(4)));
+        }
+    }
+
+    /// "its inside unread"
+    #[test]
+    fn the_inside_of_a_skipped_one() {
+        let good = edge_list();
+        let insides = [
+            vec![0; 300],
+            vec![0xff; 300],
+            // The edge list's configuration but for its KEM, whole and with a fault.
+            good[5..].to_vec(),
+            good[5..42].to_vec(),
+            [&good[5..37], &[0, 5, 0, 1, 0, 3, 0]].concat(),
+            // Configurations that can be read, with an id that is taken, and one that is bad.
+            good.clone(),
+            [&good[..], &good].concat(),
+            good[..20].to_vec(),
+            unknown(7, 0x0022, 3),
+            vec![0, 2, 0, 0],
+        ];
+        for inside in insides {
+            let mut skipped = ((3 + inside.len()) as u16).to_be_bytes().to_vec();
+            skipped.extend([7, 0, 0x22]);
+            skipped.extend(inside);
+            let size = skipped.len();
+            assert_eq!(read(&skipped), (vec![], 1));
+            let list = [&skipped[..], &good, &skipped].concat();
+            assert_eq!(read(&list), (vec![(7, size + 5)], 2));
+        }
+    }
+
+    #[test]
+    fn the_largest_length() {
+        let (longest, good) = (unknown(7, 0x0022, u16::MAX), edge_list());
+        assert_eq!(longest.len(), 65_537);
+        assert_eq!(read(&longest), (vec![], 1));
+        assert_eq!(place(&longest[..65_536]), Some(0));
+        let list = [&longest[..], &good].concat();
+        assert_eq!(read(&list), (vec![(7, 65_542)], 1));
+        assert_eq!(place(&list[..list.len() - 1]), Some(65_537));
+        let list = [&good[..], &longest].concat();
+        assert_eq!(read(&list), (vec![(7, 5)], 1));
+        assert_eq!(place(&list[..list.len() - 1]), Some(43));
+        // Sixteen of them, and one more.
+        assert_eq!(read(&longest.repeat(16)), (vec![], 16));
+        assert_eq!(place(&longest.repeat(17)), Some(16 * 65_537));
+        // That of a known KEM is bad.
+        assert_eq!(place(&unknown(7, 0x0020, u16::MAX)), Some(0));
+    }
+
+    #[test]
+    fn exactly_unknown_kems_are_skipped() {
+        let good = edge_list();
+        for kem in 0..=u16::MAX {
+            let known = [0x10, 0x11, 0x12, 0x20, 0x21].contains(&kem);
+            let mut list = [good.clone(), good.clone()].concat();
+            list[45] = 8;
+            list[46..48].copy_from_slice(&kem.to_be_bytes());
+            match kem {
+                0x20 => assert_eq!(read(&list), (vec![(7, 5), (8, 48)], 0)),
+                // Of 41 bytes, which is none of the other known ones.
+                _ if known => assert_eq!(place(&list), Some(43)),
+                _ => assert_eq!(read(&list), (vec![(7, 5)], 1)),
+            }
+            let expected = if known { Some(0) } else { None };
+            assert_eq!(place(&unknown(7, kem, 3)), expected);
+        }
+    }
+
+    #[test]
+    fn the_key_reader_and_skipped_ones() {
+        let good = edge_list();
+        let list = [unknown(8, 0x22, 41), good.clone(), unknown(9, 0x22, 3)].concat();
+        assert_eq!(public_key(&list, 7), Ok(&[0x11; 32][..]));
+        for id in [8, 9, 10] {
+            assert_eq!(public_key(&list, id), Err(refusal(4)));
+        }
+        // Another one may have that id.
+        let list = [unknown(7, 0x22, 41), good, unknown(7, 0x22, 3)].concat();
+        assert_eq!(public_key(&list, 7), Ok(&[0x11; 32][..]));
+        let cut = &list[..list.len() - 1];
+        for id in [7, 8] {
+            assert_eq!(public_key(cut, id), Err(bad_list(86)));
+        }
     }
 }

@@ -24,4 +24,7 @@ pub mod random;
 pub mod refusal;
 pub mod replay;
 pub mod request;
+pub mod skipped;
+#[cfg(test)]
+mod skipping;
 pub mod table;

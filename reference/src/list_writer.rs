@@ -36,7 +36,8 @@ pub fn write_list(configurations: &[Fields], buffer: &mut [u8]) -> Result<usize,
     Ok(list.len())
 }
 
-/// The rules of the layout on a single configuration.
+/// The rules of the layout on a single configuration. "The list writer still refuses unknown
+/// KEMs" (02, A1).
 fn keeps_layout(fields: &Fields) -> bool {
     nenc(fields.kem) == Some(fields.public_key.len())
         && pairs_length_is_good(2 * fields.pairs.len())
@@ -61,7 +62,7 @@ pub fn encode(fields: &Fields) -> Vec<u8> {
 #[cfg(test)]
 mod tests {
     use super::*;
-    use crate::key_list::tests::edge_list;
+    use crate::key_list::tests::{edge_list, unknown};
     use crate::key_list::{read_list, Configuration};
 
     fn fields(id: u8, kem: u16, npk: usize, pairs: &[u16]) -> Fields {
@@ -83,6 +84,11 @@ mod tests {
         }
     }
 
+    fn read_all_back(list: &[u8]) -> Vec<Fields> {
+        let configurations = read_list(list).unwrap().configurations.into_iter();
+        configurations.map(|read| read_back(list, read)).collect()
+    }
+
     #[test]
     fn reading_gives_them_back() {
         let written = [
@@ -93,9 +99,7 @@ mod tests {
         let mut buffer = [0xa5; 400];
         let length = write_list(&written, &mut buffer).unwrap();
         let list = &buffer[..length];
-        let configurations = read_list(list).unwrap().into_iter();
-        let read: Vec<Fields> = configurations.map(|c| read_back(list, c)).collect();
-        assert_eq!(read, written);
+        assert_eq!(read_all_back(list), written);
         assert!(buffer[length..].iter().all(|byte| *byte == 0xa5));
     }
 
@@ -105,6 +109,40 @@ mod tests {
         let answer = write_list(&[fields(7, 0x0020, 32, &[1, 3])], &mut buffer);
         assert_eq!(answer, Ok(43));
         assert_eq!(buffer[..], edge_list());
+    }
+
+    /// "write-after-read holds for lists without skipped entries only": the others are written
+    /// without them.
+    #[test]
+    fn skipped_ones_are_not_written() {
+        let (good, skipped) = (edge_list(), unknown(8, 0x0022, 20));
+        let list = [&skipped[..], &good, &skipped].concat();
+        let mut buffer = vec![0xa5; list.len()];
+        assert_eq!(write_list(&read_all_back(&list), &mut buffer), Ok(43));
+        assert_eq!(buffer[..43], good);
+        assert!(buffer[43..].iter().all(|byte| *byte == 0xa5));
+        // Where all are skipped nothing is given, and no list has no configuration.
+        let none = read_all_back(&skipped);
+        assert_eq!(write_list(&none, &mut buffer), Err(bad_list(0)));
+    }
+
+    /// "The list writer still refuses unknown KEMs": whatever they are given with, and before 14.
+    #[test]
+    fn unknown_kems_are_refused() {
+        let good = |id| fields(id, 0x0020, 32, &[1, 3]);
+        for npk in [0, 32, 65] {
+            let unknown = fields(9, 0x0022, npk, &[1, 3]);
+            for place in 0..3 {
+                let mut all = vec![good(1), good(2)];
+                all.insert(place, unknown.clone());
+                for room in [0, 400] {
+                    let mut buffer = vec![0xa5; room];
+                    let answer = write_list(&all, &mut buffer);
+                    assert_eq!(answer, Err(bad_list(43 * place)));
+                    assert!(buffer.iter().all(|byte| *byte == 0xa5));
+                }
+            }
+        }
     }
 
     #[test]

@@ -101,7 +101,7 @@ pub fn check(
 mod tests {
     use super::*;
     use crate::call::{read_line, Line};
-    use crate::key_list::tests::edge_list;
+    use crate::key_list::tests::{edge_list, unknown};
     use crate::pending::PendingTable;
 
     /// The list of the test: replies come in another order, some calls are refused.
@@ -128,7 +128,11 @@ mod tests {
     const MOVED: [usize; 9] = [0, 6, 12, 1, 3, 7, 5, 10, 8];
 
     fn run(calls: &[String]) -> (Vec<Answered>, Gateway) {
-        let mut gateway = Gateway::setup(9, &edge_list()).0;
+        run_from(&edge_list(), calls)
+    }
+
+    fn run_from(key_list: &[u8], calls: &[String]) -> (Vec<Answered>, Gateway) {
+        let mut gateway = Gateway::setup(9, key_list).0;
         let mut list = Vec::new();
         for line in calls {
             let call = match read_line(line.as_bytes()) {
@@ -150,6 +154,21 @@ mod tests {
         let (list, gateway) = run(&calls());
         assert_eq!(moved_order(&list).unwrap(), MOVED);
         assert_eq!(check_edge(&list, &gateway), Ok(()));
+    }
+
+    /// From a gateway without keys all is refused but the reports, which are struck out too.
+    #[test]
+    fn where_all_are_skipped() {
+        let key_list = unknown(7, 0x0022, 41);
+        let (list, mut gateway) = run_from(&key_list, &calls());
+        assert_eq!(moved_order(&list), Ok(vec![]));
+        let setup = Some((9, &key_list[..]));
+        assert_eq!(check(setup, &list, &gateway), Ok(()));
+        // Calls that are accepted there are caught, and so is a key.
+        let (accepted, of_edge_list) = run(&calls());
+        assert!(check(setup, &accepted, &of_edge_list).is_err());
+        gateway.keys = Gateway::setup(9, &edge_list()).0.keys;
+        assert!(check(setup, &list, &gateway).is_err());
     }
 
     #[test]

@@ -54,9 +54,7 @@ pub fn perform<K: Keeper>(keeper: &mut K, call: &Call) -> String {
 /// The calls on the client side and on lists alone.
 fn perform_without_keeper(call: &Call) -> String {
     match call {
-        Call::Check { list } => line(read_list(list), |read| {
-            format!("good configurations={}", read.len())
-        }),
+        Call::Check { list } => line(read_list(list), |read| answer::good(&read)),
         Call::Key { list, key_id } => {
             line(public_key(list, *key_id), |key| format!("key {}", hex(key)))
         }

@@ -354,7 +354,7 @@ mod tests {
         let buffer = "a5".repeat(40);
         let nonce = "22".repeat(16);
         let expected = [
-            "good configurations=1".to_string(),
+            "good configurations=1 skipped=0".to_string(),
             "refused 15 at 43".to_string(),
             format!("key {key}"),
             "refused 4".to_string(),
@@ -366,6 +366,50 @@ mod tests {
             format!("refused 14 buffer={}", "a5".repeat(42)),
             "refused 15 at 0 buffer=a5".to_string(),
             String::new(),
+        ];
+        assert_eq!(answers(&calls.join("\n")), expected.join("\n"));
+    }
+
+    #[test]
+    fn calls_with_skipped_configurations() {
+        let (good, skipped) = (edge_list(), "0003090022");
+        let admit = |head: &str| format!("admit {head}00010003{} 0", "00".repeat(48));
+        let calls = [
+            format!("check {skipped}{good}{skipped}"),
+            format!("setup 9 {skipped}{good}{skipped}"),
+            format!("key {skipped}{good}{skipped} 9"),
+            format!("choose {skipped}{good}{skipped} 00220020 00010003"),
+            admit("090022"),
+            admit("090020"),
+            "report".to_string(),
+            format!("check {skipped}{skipped}"),
+            format!("setup 9 {skipped}{skipped}"),
+            "report".to_string(),
+            admit("070020"),
+            format!("key {skipped}{skipped} 9"),
+            format!("choose {skipped}{skipped} 00220020 00010003"),
+            "check 00020900".to_string(),
+            "check 0004090022".to_string(),
+            format!("check {}", skipped.repeat(17)),
+        ];
+        let expected = [
+            "good configurations=1 skipped=2",
+            "ready keys=1",
+            "refused 4",
+            "chosen key=7 kem=0020 kdf=0001 aead=0003 public=10..42",
+            "refused 3 status=400 buffer=-",
+            "refused 4 status=400 ohttp-key buffer=-",
+            "report last=0 pending=0 keys=7:0:live",
+            "good configurations=0 skipped=2",
+            "ready keys=0",
+            "report last=0 pending=0 keys=-",
+            "refused 4 status=400 ohttp-key buffer=-",
+            "refused 4",
+            "refused 16",
+            "refused 15 at 0",
+            "refused 15 at 0",
+            "refused 15 at 80",
+            "",
         ];
         assert_eq!(answers(&calls.join("\n")), expected.join("\n"));
     }

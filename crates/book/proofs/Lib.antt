@@ -32,5 +32,6 @@ pub mod Pulling
 pub mod Chosen
 pub mod Moving
 pub mod Demand3
--- client and gateway:
+-- client and gateway, and key lists with skipped configurations:
 pub mod Agreement
+pub mod Skipping

@@ -40,7 +40,7 @@ refused-call engine g (onTicket ticket step) h =
 refused-call engine g reporting h = absurd (h refl)
 
 -- free places hold nothing that is pending
-none-pending : (n : ℕ) → pendingIn (replicate n free) ≡ []
+pub none-pending : (n : ℕ) → pendingIn (replicate n free) ≡ []
 unfolding filtered
 none-pending zero = refl
 none-pending (suc n) = none-pending n

@@ -1,4 +1,4 @@
--- 01's book, and what holds of a call, of every list of calls, and of client and gateway: each theorem is stated here and proved in proofs/.
+-- 01's book, and what holds of a call, of every list of calls, of client and gateway, and of key lists with skipped configurations: each theorem is stated here and proved in proofs/.
 pub mod Book
 pub mod History
 pub mod OneCall
@@ -9,4 +9,5 @@ pub mod Demand3
 pub mod Engines
 pub mod Storage
 pub mod Agreement
+pub mod Skipping
 pub mod Edges

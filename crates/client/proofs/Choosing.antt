@@ -5,8 +5,7 @@ use mathlib.Core.Bool.{true, false}
 use mathlib.Core.List.{List, [], _∷_}
 use Prim.Native.Nat.{ℕ, _/_, _%_}
 use native.Mathlib.Omega.{arith}
-use borrow.Author.Tests.{ltb-true, ltb-false}
-use lib.Dec.{eqb, ltb}
+use lib.Dec.{eqb}
 use lib.ListN.{length}
 use Rattle.wire.specs.Search.{anyPasses, among}
 use Rattle.wire.specs.Refusals.{refused}
@@ -16,9 +15,10 @@ use Rattle.wire.proofs.Matches.{any-first}
 use Rattle.wire.proofs.Booleans.{either, true-or-false, and-left, and-right, and-false}
 use Rattle.algorithms.specs.Sizes.{knownKem, knownPair}
 use Rattle.keylist.specs.declared.Pair.{Pair}
-use Rattle.keylist.specs.Layout.{Configuration, good, bad, parse, nextStart, configurationAt, pairsAt, keyIdAt, kemAt, keyStart, keyEnd, pairBytesAt, pairsStart, Result}
+use Rattle.keylist.specs.Layout.{Configuration, good, bad, parse, configurationAt, pairsAt, keyIdAt, kemAt, keyStart, keyEnd, pairBytesAt, pairsStart, mostConfigurations, Result}
 use Rattle.keylist.proofs.LayoutLaws.{Holds}
-use Rattle.keylist.proofs.Walk.{GoodFrom, GoodNext, walk-start, walk-next, walk-end, key-length-at}
+use Rattle.keylist.proofs.Parsing.{by-reading, holding}
+use Rattle.keylist.proofs.Walk.{GoodNext, parse-all, key-length-at}
 use Rattle.client.specs.declared.choose.Choice.{Choice}
 use Rattle.client.specs.declared.choose.Chosen.{Chosen}
 use Rattle.client.specs.declared.choose.PairFound.{PairFound}
@@ -100,34 +100,31 @@ module _ (kems numbers : List ℕ) where
         pairKnown = and-right (listed numbers p) (knownPair (p .kdf) (p .aead)) passes;
       }
 
-  -- what is chosen among the configurations that are left of a good list
-  can-use-rest : (bytes : List ℕ) (x : Choice) (rest : List Configuration) (at : ℕ) (w : GoodFrom bytes at) → w .rest ≡ rest
-      → chooseFirst kems numbers rest ≡ Chosen.Usable x → CanUse kems numbers x
+  -- what is chosen among the configurations of a good list
+  can-use-among : (bytes : List ℕ) (x : Choice) (cs : List Configuration) → parse bytes ≡ good cs
+      → chooseFirst kems numbers cs ≡ Chosen.Usable x → CanUse kems numbers x
   unfolding configurationAt
-  can-use-rest bytes x [] at w e f = absurd (usable-or-refused (sym f))
-  can-use-rest bytes x (c ∷ cs) at w e f =
-      either (ltb at (length bytes))
-      (λ h.
-      let n = walk-next bytes at w (ltb-true at (length bytes) h) in
-      let here : c ∷ cs ≡ configurationAt bytes at ∷ n .next .rest = sym e ∙ n .first in
-      let same : c ≡ configurationAt bytes at = cc in
+  can-use-among bytes x cs e =
+      by-reading bytes (λ more taken at rest. chooseFirst kems numbers rest ≡ Chosen.Usable x → CanUse kems numbers x)
+      (λ more taken at h f. absurd (usable-or-refused (sym f)))
+      (λ more taken at rest k parsed is. is)
+      (λ more taken at rest g parsed is f.
+      let c = configurationAt bytes at in
       either (usable kems numbers c)
       (λ u.
       let answer = rw u at f in
-      let is : choice c (firstUsable numbers (c .pairs)) ≡ x = cc in
-      rw is at (can-use-first c (rw same (n .holding .kem)) u))
-      (λ u. can-use-rest bytes x cs (nextStart bytes at) (n .next) (cc) (rw u at f)))
-      (λ h. absurd (let none : [] ≡ c ∷ cs = sym (walk-end bytes at w (ltb-false at (length bytes) h)) ∙ e in
-      let z : _≡_ {A = ℕ} 0 1 = cc in omega arith))
+      let same : choice c (firstUsable numbers (c .pairs)) ≡ x = cc in
+      rw same at (can-use-first c (holding bytes taken at g .kem) u))
+      (λ u. is (rw u at f)))
+      mostConfigurations [] 0 cs (parse-all bytes cs e)
 
   -- what is chosen in a list
   can-use : (bytes : List ℕ) (x : Choice) (p : Result (List Configuration)) → parse bytes ≡ p
       → chooseFrom kems numbers p ≡ Chosen.Usable x → CanUse kems numbers x
-  unfolding walk-start
   can-use bytes x (bad r) e f = absurd (usable-or-refused (sym f))
   can-use bytes x (good cs) e f =
       either (eqb (length numbers % 2) 0)
-      (λ even. can-use-rest bytes x cs 0 (walk-start bytes cs e) refl (rw even at f))
+      (λ even. can-use-among bytes x cs e (rw even at f))
       (λ odd. absurd (usable-or-refused (sym (rw odd at f))))
 
 refused-unless : (answer : Chosen) → ((x : Choice) → answer ≡ Chosen.Usable x → ⊥) → IsRefused Chosen.Refused answer

@@ -18,6 +18,7 @@ use algorithms::is_known_pair;
 use keylist::Checked;
 use keylist::KeyId;
 use keylist::check::check;
+use keylist::check::first_read;
 use keylist::check::place_at;
 use wire::bytes::word_at;
 use wire::refusal::Refusal;
@@ -49,7 +50,7 @@ pub fn choose(list: &[u8], kems: &[u16], pairs: &[u16]) -> Chosen
     ensures { λ r. ⌜ r ≡ chooseFrom (now (kems .entry)) (now (pairs .entry)) (parse (now (list .entry))) ⌝ }
 {
     match check(list) {
-        Checked::Good(_) => {
+        Checked::Good(_, _) => {
             if pairs.len() % 2 != 0 {
                 return refused(Refusal::WRONG_LENGTH);
             }
@@ -65,13 +66,13 @@ fn choose_in_good(list: &[u8], kems: &[u16], pairs: &[u16]) -> Chosen
     requires even { ⌜ length (now pairs) % 2 ≡ 0 ⌝ }
     ensures { λ r. ⌜ r ≡ chooseFrom (now (kems .entry)) (now (pairs .entry)) (parse (now (list .entry))) ⌝ }
 {
-    let mut at = 0;
+    let mut at = first_read(list, 0);
     while at < list.len() {
         match choose_at(list, at, kems, pairs) {
             Chosen::Usable(choice) => return Chosen::Usable(choice),
             Chosen::Refused(_) => {}
         }
-        at = place_at(list, at).end;
+        at = place_at(list, at).next;
     }
     refused(Refusal::NO_USABLE_CONFIGURATION)
 }

@@ -103,7 +103,7 @@ impl Gateway {
         let read = Keys::read(list);
         let checked = read.checked;
         match checked {
-            Checked::Good(count) => {
+            Checked::Good(count, _) => {
                 if cap < 1 {
                     return refused_setup(Refusal::of(Refusal::CAP_OUT_OF_RANGE));
                 }

@@ -14,10 +14,10 @@ use results::list_calls::write_result;
 use results::outcome::NumberResult;
 use results::outcome::TwoNumbersResult;
 
-// Whether a key list is good, and its number of configurations: 15 with its place where it is not.
+// Whether a key list is good, with how many of its configurations were read and how many skipped: 15 with its place where it is not.
 #[no_mangle]
-pub extern "C" fn sealwax_check(list: &[u8]) -> NumberResult
-    ensures { λ r. ⌜ r ≡ checkResult (checked (parse (now (list .entry)))) ⌝ }
+pub extern "C" fn sealwax_check(list: &[u8]) -> TwoNumbersResult
+    ensures { λ r. ⌜ r ≡ checkResult (checked (now (list .entry))) ⌝ }
 {
     let checked = check(list);
     check_result(checked)

@@ -40,7 +40,7 @@ pub extern "C" fn sealwax_sizes() -> Sizes
         open: NUMBER,
         respond: NUMBER,
         report: 240,
-        check: NUMBER,
+        check: TWO_NUMBERS,
         key: TWO_NUMBERS,
         write: NUMBER,
         choose: 48,

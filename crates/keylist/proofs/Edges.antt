@@ -1,15 +1,17 @@
--- The starred edges that need no gateway, computed.
+-- The starred edges that need no gateway, and those of A1, computed.
 -- Assumes nothing.
 use mathlib.Core.Path.{refl}
+use mathlib.Core.List.{flatten}
 use Rattle.algorithms.specs.Sizes.{knownKem, publicKeyLength}
 use Rattle.algorithms.specs.Table.{rowOf, table}
-use Rattle.wire.specs.Search.{anyPasses, firstPlace}
+use Rattle.wire.specs.Search.{anyPasses, filtered, find, firstPlace}
 use Rattle.wire.specs.Texts.{ascii, requestLabel}
-use Rattle.keylist.specs.Edges.{ListEdges, edgeList, hex}
-use Rattle.keylist.specs.Layout.{configurationAt, layoutHolds, pairsAt, parse, parseFrom}
+use Rattle.keylist.specs.Answers.{startsFrom}
+use Rattle.keylist.specs.Edges.{ListEdges, SkippingEdges, edgeList, hex}
+use Rattle.keylist.specs.Layout.{configurationAt, isSkipped, layoutHolds, pairsAt, parse, parseFrom}
 
 pub list-edges : ListEdges
-unfolding ascii edgeList hex parse parseFrom layoutHolds configurationAt pairsAt knownKem publicKeyLength rowOf table firstPlace anyPasses requestLabel
+unfolding ascii edgeList hex parse parseFrom isSkipped layoutHolds configurationAt pairsAt knownKem publicKeyLength rowOf table firstPlace anyPasses requestLabel
 list-edges =
     record {
       bytes = refl;
@@ -17,4 +19,18 @@ list-edges =
       twice = refl;
       empty = refl;
       info = refl;
+    }
+
+pub skipping-edges : SkippingEdges
+unfolding edgeList hex parse parseFrom isSkipped layoutHolds configurationAt pairsAt knownKem publicKeyLength rowOf table firstPlace anyPasses filtered find startsFrom flatten
+skipping-edges =
+    record {
+      inFront = refl;
+      counted = refl;
+      tooShort = refl;
+      cut = refl;
+      sixteen = refl;
+      seventeen = refl;
+      noKey = refl;
+      key = refl;
     }

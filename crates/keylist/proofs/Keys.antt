@@ -1,15 +1,15 @@
 -- Where a public key is found in the walk over a good list, that it lies in the list, and that the key reader's part is empty
 -- exactly on refusal.
 -- Assumes nothing.
-use mathlib.Core.Path.{_≡_, refl, sym, ap, _∙_}
+use mathlib.Core.Path.{_≡_, refl, ap, _∙_}
 use mathlib.Core.Bool.{true}
 use mathlib.Core.List.{List, [], _∷_}
 use mathlib.Core.Logic.{_↔_}
 use mathlib.Core.Option.{some, Option·none-ne-some, Option·some-injective}
 use Prim.Native.Nat.{ℕ, _+_, _-_, _≤_, _<_}
 use native.Mathlib.Omega.{arith}
-use borrow.Author.Tests.{lt-ltb, eq-eqb, ne-eqb, eqb-true, eqb-false, ltb-true, ltb-false}
-use lib.Dec.{eqb, ltb}
+use borrow.Author.Tests.{lt-ltb, eq-eqb, ne-eqb, eqb-true, eqb-false}
+use lib.Dec.{eqb}
 use lib.ListN.{length, length-take, length-drop}
 use Rattle.wire.specs.Bytes.{part}
 use Rattle.wire.specs.Search.{find}
@@ -19,12 +19,13 @@ use Rattle.algorithms.specs.Sizes.{publicKeyLength}
 use Rattle.algorithms.proofs.Stated.{size-bounds}
 use Rattle.keylist.specs.declared.KeyPlace.{KeyPlace}
 use Rattle.keylist.specs.declared.Place.{Place}
-use Rattle.keylist.specs.Layout.{Configuration, good, bad, parse, configurationAt, layoutHolds, keyIdAt, kemAt, keyStart, keyEnd, nextStart, Result}
+use Rattle.keylist.specs.Layout.{Configuration, good, bad, parse, configurationAt, layoutHolds, keyIdAt, kemAt, keyStart, keyEnd, mostConfigurations, Result}
 use Rattle.keylist.specs.Answers.{configurationWith, keyPlace, keyPlaceIn, keyPart}
 use Rattle.keylist.specs.Helpers.{placeOf, placeAt}
 use Rattle.keylist.specs.Stated.{EmptyOnRefusal, PublicKeyExactly}
 use Rattle.keylist.proofs.LayoutLaws.{Holds, holds}
-use Rattle.keylist.proofs.Walk.{GoodFrom, GoodNext, walk-start, walk-next, walk-end, key-length-at}
+use Rattle.keylist.proofs.Parsing.{by-reading, holding}
+use Rattle.keylist.proofs.Walk.{parse-all, key-length-at}
 
 -- where the key with the id lies, of these configurations
 abbrev pub firstWithId : ℕ → List Configuration → KeyPlace
@@ -38,18 +39,19 @@ pub good-place : {bytes : List ℕ} {at : ℕ} {place : Place} → layoutHolds b
     → Holds bytes at × (place ≡ placeOf bytes at)
 good-place {bytes} {at} h e = let is = holds bytes at h in (is, e ∙ place-inside bytes at (omega (arith, is .whole)))
 
-module _ (bytes : List ℕ) (at id : ℕ) {rest : List Configuration} (n : GoodNext bytes at rest) where
-  -- the next configuration has the key id
-  pub found-here : keyIdAt bytes at ≡ id → firstWithId id rest ≡ KeyPlace.Found (keyStart at) (keyEnd bytes at)
+module _ (bytes : List ℕ) (at id : ℕ) (cs : List Configuration) where
+  -- the first configuration has the key id
+  pub found-here : Holds bytes at → keyIdAt bytes at ≡ id
+      → firstWithId id (configurationAt bytes at ∷ cs) ≡ KeyPlace.Found (keyStart at) (keyEnd bytes at)
   unfolding configurationAt find
-  found-here e =
-      rw (n .first, eq-eqb (keyIdAt bytes at) id e)
-      (ap (λ (k : ℕ). KeyPlace.Found (keyStart at) (keyStart at + k)) (key-length-at bytes at (n .holding)))
+  found-here h e =
+      rw (eq-eqb (keyIdAt bytes at) id e)
+      (ap (λ (k : ℕ). KeyPlace.Found (keyStart at) (keyStart at + k)) (key-length-at bytes at h))
 
   -- it has another
-  pub found-later : (keyIdAt bytes at ≡ id → ⊥) → firstWithId id rest ≡ firstWithId id (n .next .rest)
+  pub found-later : (keyIdAt bytes at ≡ id → ⊥) → firstWithId id (configurationAt bytes at ∷ cs) ≡ firstWithId id cs
   unfolding configurationAt find
-  found-later e = rw (n .first, ne-eqb (keyIdAt bytes at) id e)
+  found-later e = rw (ne-eqb (keyIdAt bytes at) id e)
 
 -- what is found lies in the list and is not empty
 Inside : List ℕ → KeyPlace → Type 0
@@ -62,25 +64,18 @@ inside-key bytes at h =
     let there : 0 < publicKeyLength (kemAt bytes at) = size-bounds .keyIsThere (kemAt bytes at) (h .kem) in
     (omega arith, omega (arith, h .whole, h .sizes))
 
-inside-rest : (bytes : List ℕ) (id : ℕ) (rest : List Configuration) (at : ℕ) (w : GoodFrom bytes at) → w .rest ≡ rest
-    → Inside bytes (firstWithId id (w .rest))
-unfolding Inside find
-inside-rest bytes id [] at w e = rw e tt
-inside-rest bytes id (c ∷ cs) at w e =
-    either (ltb at (length bytes))
-    (λ h.
-    let n = walk-next bytes at w (ltb-true at (length bytes) h) in
-    let here : c ∷ cs ≡ configurationAt bytes at ∷ n .next .rest = sym e ∙ n .first in
-    either (eqb (keyIdAt bytes at) id)
-    (λ i. rw (found-here bytes at id n (eqb-true (keyIdAt bytes at) id i)) (inside-key bytes at (n .holding)))
-    (λ i. rw (found-later bytes at id n (eqb-false (keyIdAt bytes at) id i))
-    (inside-rest bytes id cs (nextStart bytes at) (n .next) (cc))))
-    (λ h. absurd (let none : [] ≡ c ∷ cs = sym (walk-end bytes at w (ltb-false at (length bytes) h)) ∙ e in
-    let z : _≡_ {A = ℕ} 0 1 = cc in omega arith))
-
 inside-list : (bytes : List ℕ) (id : ℕ) (p : Result (List Configuration)) → parse bytes ≡ p → Inside bytes (keyPlaceIn id p)
-unfolding Inside walk-start
-inside-list bytes id (good cs) e = inside-rest bytes id cs 0 (walk-start bytes cs e) refl
+unfolding Inside find
+inside-list bytes id (good cs) e =
+    by-reading bytes (λ more taken at rest. Inside bytes (firstWithId id rest))
+    (λ more taken at h. tt)
+    (λ more taken at rest k parsed inside. inside)
+    (λ more taken at rest g parsed inside.
+    let h = holding bytes taken at g in
+    either (eqb (keyIdAt bytes at) id)
+    (λ i. rw (found-here bytes at id rest h (eqb-true (keyIdAt bytes at) id i)) (inside-key bytes at h))
+    (λ i. rw (found-later bytes at id rest (eqb-false (keyIdAt bytes at) id i)) inside))
+    mostConfigurations [] 0 cs (parse-all bytes cs e)
 inside-list bytes id (bad r) e = tt
 
 -- a key that is found lies in the list
@@ -103,27 +98,26 @@ empty-place bytes (KeyPlace.Refused r) h = (λ e. (r, refl), λ e. refl)
 pub empty-on-refusal : EmptyOnRefusal
 empty-on-refusal bytes id = empty-place bytes (keyPlaceIn id (parse bytes)) (inside-list bytes id (parse bytes) refl)
 
--- from an offset on: the part that is found is the public key of the first configuration with the key id, and has its Npk bytes
-key-rest : (bytes : List ℕ) (id : ℕ) (rest : List Configuration) (at : ℕ) (w : GoodFrom bytes at) → w .rest ≡ rest → (c : Configuration)
-    → configurationWith id (w .rest) ≡ some c
-    → (keyPart bytes (firstWithId id (w .rest)) ≡ c .publicKey) × (length (c .publicKey) ≡ publicKeyLength (c .kem))
+-- the part that is found is the public key of the first configuration with the key id, and has its Npk bytes
+key-among : (bytes : List ℕ) (id : ℕ) (cs : List Configuration) (c : Configuration) → parse bytes ≡ good cs → configurationWith id cs ≡ some c
+    → (keyPart bytes (firstWithId id cs) ≡ c .publicKey) × (length (c .publicKey) ≡ publicKeyLength (c .kem))
 unfolding find configurationAt
-key-rest bytes id [] at w e c f = absurd (Option·none-ne-some c (rw e at f))
-key-rest bytes id (d ∷ rest) at w e c f =
-    either (ltb at (length bytes))
-    (λ h.
-    let n = walk-next bytes at w (ltb-true at (length bytes) h) in
-    let here : d ∷ rest ≡ configurationAt bytes at ∷ n .next .rest = sym e ∙ n .first in
+key-among bytes id cs c e =
+    by-reading bytes
+    (λ more taken at rest.
+    configurationWith id rest ≡ some c
+    → (keyPart bytes (firstWithId id rest) ≡ c .publicKey) × (length (c .publicKey) ≡ publicKeyLength (c .kem)))
+    (λ more taken at h f. absurd (Option·none-ne-some c f))
+    (λ more taken at rest k parsed is. is)
+    (λ more taken at rest g parsed is f.
+    let h = holding bytes taken at g in
     either (eqb (keyIdAt bytes at) id)
     (λ i.
-    let is : configurationAt bytes at ≡ c = Option·some-injective (configurationAt bytes at) c (rw (n .first, i) at f) in
+    let same : configurationAt bytes at ≡ c = Option·some-injective (configurationAt bytes at) c (rw i at f) in
     let size : keyEnd bytes at - keyStart at ≡ publicKeyLength (kemAt bytes at) = omega arith in
-    rw (← is, found-here bytes at id n (eqb-true (keyIdAt bytes at) id i), size) (refl, key-length-at bytes at (n .holding)))
-    (λ i. rw (found-later bytes at id n (eqb-false (keyIdAt bytes at) id i))
-    (key-rest bytes id rest (nextStart bytes at) (n .next) (cc) c (rw (n .first, i) at f))))
-    (λ h. absurd (let none : [] ≡ d ∷ rest = sym (walk-end bytes at w (ltb-false at (length bytes) h)) ∙ e in
-    let z : _≡_ {A = ℕ} 0 1 = cc in omega arith))
+    rw (← same, found-here bytes at id rest h (eqb-true (keyIdAt bytes at) id i), size) (refl, key-length-at bytes at h))
+    (λ i. rw (found-later bytes at id rest (eqb-false (keyIdAt bytes at) id i)) (is (rw i at f))))
+    mostConfigurations [] 0 cs (parse-all bytes cs e)
 
 pub public-key-exactly : PublicKeyExactly
-unfolding walk-start
-public-key-exactly bytes id cs c e f = rw e (key-rest bytes id cs 0 (walk-start bytes cs e) refl c f)
+public-key-exactly bytes id cs c e f = rw e (key-among bytes id cs c e f)

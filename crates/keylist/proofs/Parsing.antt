@@ -1,22 +1,22 @@
--- How reading a list goes on from an offset: at the end, at a bad configuration, at a good one; and the walk over a list that is
--- known to be good.
+-- How reading a list goes on from an offset: at the end, at a bad configuration, at one that is skipped, at a good one; and how check counts.
 -- Assumes nothing.
-use mathlib.Core.Path.{_≡_, refl, ap}
+use mathlib.Core.Path.{_≡_, refl, sym, ap, _∙_}
 use mathlib.Core.Bool.{Bool, true, false, not}
 use mathlib.Core.List.{List, [], _∷_, _++_}
-use Prim.Native.Nat.{ℕ, zero, suc, _+_, _-_, _≤_, _<_}
+use Prim.Native.Nat.{ℕ, zero, suc, _+_, _≤_, _<_}
 use native.Mathlib.Omega.{arith}
-use borrow.Author.Tests.{le-leb, lt-leb, ltb-false}
+use borrow.Author.Tests.{le-leb, lt-leb, ltb-true, ltb-false}
 use lib.Dec.{ltb}
 use lib.ListN.{length}
 use Rattle.wire.specs.Tests.{_and_}
-use Rattle.wire.specs.Search.{among}
+use Rattle.wire.specs.Search.{among, filtered}
 use Rattle.wire.specs.Refusals.{badList}
 use Rattle.wire.specs.declared.refusal.Refusal.{Refusal}
-use Rattle.wire.proofs.Booleans.{either}
+use Rattle.wire.proofs.Booleans.{either, and-left}
 use Rattle.keylist.specs.declared.Checked.{Checked}
-use Rattle.keylist.specs.Layout.{Configuration, good, bad, parse, parseFrom, followedBy, configurationAt, layoutHolds, keyIdAt, nextStart, mostConfigurations, Result}
-use Rattle.keylist.specs.Answers.{checked}
+use Rattle.keylist.specs.Layout.{Configuration, good, bad, parse, parseFrom, followedBy, configurationAt, isSkipped, layoutHolds, keyIdAt, nextStart, mostConfigurations, Result}
+use Rattle.keylist.specs.Answers.{checkedFrom, startsFrom}
+use Rattle.keylist.proofs.LayoutLaws.{Holds, holds, held-not-skipped, skipped}
 
 -- a refusal is no result
 pub no-refusal : {A P : Type 0} {r : Refusal} {a : A} → bad r ≡ good a → P
@@ -26,35 +26,34 @@ no-refusal e = absurd (let z : _≡_ {A = ℕ} 0 1 = cc in omega arith)
 abbrev pub goodAt : List ℕ → List ℕ → ℕ → Bool
 goodAt taken bytes at = layoutHolds bytes at and not (among taken (keyIdAt bytes at))
 
+pub holding : (bytes taken : List ℕ) (at : ℕ) → goodAt taken bytes at ≡ true → Holds bytes at
+holding bytes taken at g = holds bytes at (and-left (layoutHolds bytes at) (not (among taken (keyIdAt bytes at))) g)
+
 module _ (more : ℕ) (taken bytes : List ℕ) (at : ℕ) where
   pub parse-end : length bytes ≤ at → parseFrom more taken bytes at ≡ good []
   unfolding parseFrom
   parse-end h = elim more [ zero ↦ rw (le-leb (length bytes) at h) | suc n ↦ rw (le-leb (length bytes) at h) ]
 
-  pub parse-bad : at < length bytes → goodAt taken bytes at ≡ false → parseFrom more taken bytes at ≡ bad (badList at)
-  unfolding parseFrom
-  parse-bad h e = elim more [ zero ↦ rw (lt-leb (length bytes) at h) | suc n ↦ rw (lt-leb (length bytes) at h, e) ]
-
   pub parse-too-many : at < length bytes → more ≡ 0 → parseFrom more taken bytes at ≡ bad (badList at)
   unfolding parseFrom
   parse-too-many h e = rw (e, lt-leb (length bytes) at h)
 
-  pub parse-more : at < length bytes → goodAt taken bytes at ≡ true
+  pub parse-bad : at < length bytes → isSkipped bytes at ≡ false → goodAt taken bytes at ≡ false
+      → parseFrom more taken bytes at ≡ bad (badList at)
+  unfolding parseFrom
+  parse-bad h k e = elim more [ zero ↦ rw (lt-leb (length bytes) at h) | suc n ↦ rw (lt-leb (length bytes) at h, k, e) ]
+
+  pub parse-skip : isSkipped bytes at ≡ true → parseFrom (suc more) taken bytes at ≡ parseFrom more taken bytes (nextStart bytes at)
+  unfolding parseFrom
+  parse-skip k = rw (lt-leb (length bytes) at (omega (arith, skipped bytes at k .whole)), k)
+
+  pub parse-more : goodAt taken bytes at ≡ true
       → parseFrom (suc more) taken bytes at
       ≡ followedBy (configurationAt bytes at) (parseFrom more (taken ++ keyIdAt bytes at ∷ []) bytes (nextStart bytes at))
   unfolding parseFrom
-  parse-more h e = rw (lt-leb (length bytes) at h, e)
-
--- the code's one test: the limit and the configuration
-pub parse-refused : (taken bytes : List ℕ) (at : ℕ) → at < length bytes
-    → (ltb (length taken) mostConfigurations and goodAt taken bytes at) ≡ false
-    → parseFrom (mostConfigurations - length taken) taken bytes at ≡ bad (badList at)
-parse-refused taken bytes at h e =
-    either (ltb (length taken) mostConfigurations)
-    (λ few. parse-bad (mostConfigurations - length taken) taken bytes at h (rw few at e))
-    (λ many.
-    let full : mostConfigurations ≤ length taken = ltb-false (length taken) mostConfigurations many in
-    parse-too-many (mostConfigurations - length taken) taken bytes at h (omega arith))
+  parse-more e =
+      let is = holding bytes taken at e in
+      rw (lt-leb (length bytes) at (omega (arith, is .whole)), held-not-skipped bytes at is, e)
 
 pub parse-some : (bytes : List ℕ) → 0 < length bytes → parse bytes ≡ parseFrom mostConfigurations [] bytes 0
 unfolding parse
@@ -66,17 +65,86 @@ unfolding parse
 parse-none [] h = refl
 parse-none (b ∷ bytes) h = absurd (omega arith)
 
--- the answer of check, with so many configurations before
-unfoldable pub counted : ℕ → Result (List Configuration) → Checked
-counted n (good cs) = Checked.Good (n + length cs)
-counted n (bad r) = Checked.Refused r
+-- a good outcome behind a first configuration is that configuration and a good outcome
+pub followed : (c : Configuration) (p : Result (List Configuration)) (cs : List Configuration) → followedBy c p ≡ good cs
+    → (rest : List Configuration) × (p ≡ good rest) × (cs ≡ c ∷ rest)
+followed c (good rest) cs e = (rest, refl, cc)
+followed c (bad r) cs e = no-refusal e
 
-pub counted-none : (p : Result (List Configuration)) → checked p ≡ counted 0 p
-unfolding counted
-counted-none (good cs) = ap Checked.Good (omega arith)
-counted-none (bad r) = refl
+-- what is left of the configurations of a good list from an offset on, by induction: none at the end; behind one that is skipped the same;
+-- and one that is read in front of what is left behind it
+module _ (bytes : List ℕ) (P : ℕ → List ℕ → ℕ → List Configuration → Type 0)
+    (at-end : (more : ℕ) (taken : List ℕ) (at : ℕ) → length bytes ≤ at → P more taken at [])
+    (at-skipped : (more : ℕ) (taken : List ℕ) (at : ℕ) (cs : List Configuration) → isSkipped bytes at ≡ true
+    → parseFrom more taken bytes (nextStart bytes at) ≡ good cs → P more taken (nextStart bytes at) cs → P (suc more) taken at cs)
+    (at-read : (more : ℕ) (taken : List ℕ) (at : ℕ) (cs : List Configuration) → goodAt taken bytes at ≡ true
+    → parseFrom more (taken ++ keyIdAt bytes at ∷ []) bytes (nextStart bytes at) ≡ good cs
+    → P more (taken ++ keyIdAt bytes at ∷ []) (nextStart bytes at) cs → P (suc more) taken at (configurationAt bytes at ∷ cs)) where
+  none-left : (more : ℕ) (taken : List ℕ) (at : ℕ) (cs : List Configuration) → length bytes ≤ at → parseFrom more taken bytes at ≡ good cs
+      → P more taken at cs
+  none-left more taken at cs h e =
+      let none : [] ≡ cs = cc (sym (parse-end more taken bytes at h) ∙ e) in
+      rw (← none) (at-end more taken at h)
 
-pub counted-one : (n : ℕ) (c : Configuration) (p : Result (List Configuration)) → counted n (followedBy c p) ≡ counted (n + 1) p
+  pub by-reading : (more : ℕ) (taken : List ℕ) (at : ℕ) (cs : List Configuration) → parseFrom more taken bytes at ≡ good cs
+      → P more taken at cs
+  by-reading zero taken at cs e =
+      either (ltb at (length bytes))
+      (λ h. no-refusal (sym (parse-too-many zero taken bytes at (ltb-true at (length bytes) h) refl) ∙ e))
+      (λ h. none-left zero taken at cs (ltb-false at (length bytes) h) e)
+  by-reading (suc more) taken at cs e =
+      either (ltb at (length bytes))
+      (λ h.
+      either (isSkipped bytes at)
+      (λ k.
+      let behind = sym (parse-skip more taken bytes at k) ∙ e in
+      at-skipped more taken at cs k behind (by-reading more taken (nextStart bytes at) cs behind))
+      (λ k.
+      either (goodAt taken bytes at)
+      (λ g.
+      let ids = taken ++ keyIdAt bytes at ∷ [] in
+      let (rest, behind, whole) = followed (configurationAt bytes at) (parseFrom more ids bytes (nextStart bytes at)) cs (sym (parse-more more taken bytes at g) ∙ e) in
+      rw whole (at-read more taken at rest g behind (by-reading more ids (nextStart bytes at) rest behind)))
+      (λ g. no-refusal (sym (parse-bad (suc more) taken bytes at (ltb-true at (length bytes) h) k g) ∙ e))))
+      (λ h. none-left (suc more) taken at cs (ltb-false at (length bytes) h) e)
+
+-- what check answers, where so many were read and skipped before, of what is read and how many are skipped behind
+unfoldable pub counted : ℕ → ℕ → Result (List Configuration) → ℕ → Checked
+counted read skips (good cs) more = Checked.Good (read + length cs) (skips + more)
+counted read skips (bad r) more = Checked.Refused r
+
+pub counted-none : (p : Result (List Configuration)) (more : ℕ) → checkedFrom p more ≡ counted 0 0 p more
 unfolding counted
-counted-one n c (good cs) = ap Checked.Good (omega arith)
-counted-one n c (bad r) = refl
+counted-none (good cs) more =
+    let same : 0 + length cs ≡ length cs = omega arith in
+    let skips : 0 + more ≡ more = omega arith in
+    rw (same, skips)
+counted-none (bad r) more = refl
+
+pub counted-read : (read skips more : ℕ) (c : Configuration) (p : Result (List Configuration))
+    → counted read skips (followedBy c p) more ≡ counted (read + 1) skips p more
+unfolding counted
+counted-read read skips more c (good cs) = ap (λ n. Checked.Good n (skips + more)) (omega arith)
+counted-read read skips more c (bad r) = refl
+
+pub counted-skip : (read skips more : ℕ) (p : Result (List Configuration)) → counted read skips p (suc more) ≡ counted read (skips + 1) p more
+unfolding counted
+counted-skip read skips more (good cs) = ap (Checked.Good (read + length cs)) (omega arith)
+counted-skip read skips more (bad r) = refl
+
+-- how many are skipped from an offset on
+abbrev pub skipsFrom : ℕ → List ℕ → ℕ → ℕ
+skipsFrom more bytes at = length (filtered (isSkipped bytes) (startsFrom more bytes at))
+
+module _ (more : ℕ) (bytes : List ℕ) (at : ℕ) where
+  pub skips-end : length bytes ≤ at → skipsFrom more bytes at ≡ 0
+  unfolding startsFrom filtered
+  skips-end h = elim more [ zero ↦ refl | suc n ↦ rw (le-leb (length bytes) at h) ]
+
+  pub skips-one : isSkipped bytes at ≡ true → skipsFrom (suc more) bytes at ≡ suc (skipsFrom more bytes (nextStart bytes at))
+  unfolding startsFrom filtered
+  skips-one k = rw (lt-leb (length bytes) at (omega (arith, skipped bytes at k .whole)), k)
+
+  pub skips-none : at < length bytes → isSkipped bytes at ≡ false → skipsFrom (suc more) bytes at ≡ skipsFrom more bytes (nextStart bytes at)
+  unfolding startsFrom filtered
+  skips-none h k = rw (lt-leb (length bytes) at h, k)

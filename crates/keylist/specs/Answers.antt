@@ -1,20 +1,36 @@
--- What check and the key reader answer (01, "Key reader: 15, 4"), as the list's configurations say.
-use Prim.Native.Nat.{ℕ, _+_, _-_}
-use mathlib.Core.List.{List, []}
+-- What check (02, A1) and the key reader (01, "Key reader: 15, 4") answer, as the list's configurations say.
+use Prim.Native.Nat.{ℕ, zero, suc, _+_, _-_}
+use mathlib.Core.List.{List, [], _∷_}
 use mathlib.Core.Option.{Option, none, some}
-use lib.Dec.{eqb}
+use lib.Dec.{eqb, leb}
 use lib.ListN.{length}
-use Rattle.wire.specs.Search.{find}
+use Rattle.wire.specs.Tests.{pick}
+use Rattle.wire.specs.Search.{filtered, find}
 use Rattle.wire.specs.Bytes.{part}
 use Rattle.wire.specs.Refusals.{refused}
-use Rattle.keylist.specs.Layout.{Configuration, good, bad, keyStart, Result}
+use Rattle.keylist.specs.Layout.{Configuration, good, bad, keyStart, isSkipped, mostConfigurations, nextStart, parse, Result}
 use Rattle.keylist.specs.declared.Checked.{Checked}
 use Rattle.keylist.specs.declared.KeyPlace.{KeyPlace}
 
--- check: the number of configurations, or 15 with the place
-abbrev pub checked : Result (List Configuration) → Checked
-checked (good cs) = Checked.Good (length cs)
-checked (bad r) = Checked.Refused r
+-- where the configurations from an offset on start, skipped ones too, at most so many
+unfoldable pub startsFrom : ℕ → List ℕ → ℕ → List ℕ
+startsFrom zero bytes at = []
+startsFrom (suc more) bytes at = pick (leb (length bytes) at) [] (at ∷ startsFrom more bytes (nextStart bytes at))
+
+abbrev pub starts : List ℕ → List ℕ
+starts bytes = startsFrom mostConfigurations bytes 0
+
+-- how many are skipped
+abbrev pub skippedIn : List ℕ → ℕ
+skippedIn bytes = length (filtered (isSkipped bytes) (starts bytes))
+
+-- check: how many configurations were read and how many skipped, or 15 with the place
+abbrev pub checkedFrom : Result (List Configuration) → ℕ → Checked
+checkedFrom (good cs) skipped = Checked.Good (length cs) skipped
+checkedFrom (bad r) skipped = Checked.Refused r
+
+abbrev pub checked : List ℕ → Checked
+checked bytes = checkedFrom (parse bytes) (skippedIn bytes)
 
 -- the configuration with the key id, if there is one
 abbrev pub configurationWith : ℕ → List Configuration → Option Configuration

@@ -1,17 +1,18 @@
--- 01, "Edges": the starred ones that need no gateway, as one computed statement about the definitions.
+-- 01, "Edges": the starred ones that need no gateway, and 02, A1, at its bounds; each a computed statement about the definitions.
 use Prim.Native.Char.{code}
 use Prim.Native.Nat.{ℕ, _+_, _-_, _*_}
 use Prim.Native.String.{String, [] as end, _∷_ as _then_}
-use mathlib.Core.List.{List, [], _∷_, _++_}
+use mathlib.Core.List.{List, [], _∷_, _++_, map, flatten}
 use mathlib.Core.Path.{_≡_}
 use lib.Dec.{ltb}
 use lib.ListN.{length, replicate}
-use Rattle.wire.specs.Refusals.{badList}
+use Rattle.wire.specs.Refusals.{badList, refused}
 use Rattle.wire.specs.Tests.{pick}
 use Rattle.wire.specs.Texts.{headBytes, infoBytes}
-use Rattle.keylist.specs.Answers.{checked}
+use Rattle.keylist.specs.Answers.{checked, keyPlaceIn}
 use Rattle.keylist.specs.Layout.{good, parse}
 use Rattle.keylist.specs.declared.Checked.{Checked}
+use Rattle.keylist.specs.declared.KeyPlace.{KeyPlace}
 
 -- a hexadecimal digit, of its ASCII code
 abbrev pub digit : ℕ → ℕ
@@ -34,6 +35,30 @@ pub record ListEdges : Type 0 where
       parse edgeList
       ≡ good
       (record { start = 0; keyId = 7; kem = 0x0020; publicKey = replicate 32 0x11; pairs = record { kdf = 1; aead = 3 } ∷ [] } ∷ [])
-  pub twice : checked (parse (edgeList ++ edgeList)) ≡ Checked.Refused (badList 43)
-  pub empty : checked (parse []) ≡ Checked.Refused (badList 0)
+  pub twice : checked (edgeList ++ edgeList) ≡ Checked.Refused (badList 43)
+  pub empty : checked [] ≡ Checked.Refused (badList 0)
   pub info : infoBytes (headBytes 7 0x0020 1 3) ≡ hex "6d6573736167652f626874747020726571756573740007002000010003"
+
+-- 02, A1: a configuration of 3 bytes with the key id of 01's list and an unknown KEM
+abbrev pub unknownKem : List ℕ
+unknownKem = hex "0003070030"
+
+pub record SkippingEdges : Type 0 where
+  -- in front, its key id not taken; the offset is that of the list as it came
+  pub inFront :
+      parse (unknownKem ++ edgeList)
+      ≡ good
+      (record { start = 5; keyId = 7; kem = 0x0020; publicKey = replicate 32 0x11; pairs = record { kdf = 1; aead = 3 } ∷ [] } ∷ [])
+  -- read and skipped: at each place, and where all are
+  pub counted :
+      map checked ((unknownKem ++ edgeList) ∷ (edgeList ++ unknownKem) ∷ (unknownKem ++ edgeList ++ unknownKem) ∷ unknownKem ∷ [])
+      ≡ Checked.Good 1 1 ∷ Checked.Good 1 1 ∷ Checked.Good 1 2 ∷ Checked.Good 0 1 ∷ []
+  -- of 2 bytes, and cut by one byte
+  pub tooShort : checked (edgeList ++ hex "00020700") ≡ Checked.Refused (badList 43)
+  pub cut : checked (edgeList ++ hex "00030700") ≡ Checked.Refused (badList 43)
+  -- sixteen, and a seventeenth, which would be skipped
+  pub sixteen : checked (flatten (replicate 16 unknownKem)) ≡ Checked.Good 0 16
+  pub seventeen : checked (edgeList ++ flatten (replicate 16 unknownKem)) ≡ Checked.Refused (badList 118)
+  -- the key reader: 4 where all are skipped, and the key behind a skipped one of the same key id
+  pub noKey : keyPlaceIn 7 (parse unknownKem) ≡ KeyPlace.Refused (refused 4)
+  pub key : keyPlaceIn 7 (parse (unknownKem ++ edgeList)) ≡ KeyPlace.Found 10 42

@@ -1,4 +1,5 @@
--- 01, "Layouts", the key list (RFC 9458, 3.1 and 3.2): a list of bytes read into configurations, or refused with its place.
+-- 01, "Layouts", the key list (RFC 9458, 3.1 and 3.2), with 02, A1: a list of bytes read into configurations, those with an unknown KEM
+-- left out, or refused with its place.
 use Prim.Native.Nat.{ℕ, zero, suc, _+_, _/_, _%_}
 use mathlib.Core.Bool.{Bool, not}
 use mathlib.Core.List.{List, [], _∷_, _++_}
@@ -81,10 +82,18 @@ configurationAt bytes at =
 abbrev pub pairBytesHold : ℕ → Bool
 pairBytesHold size = eqb (size % 4) 0 and leb 4 size and leb size mostPairBytes
 
--- the layout's rules for one configuration: it lies whole in the list, its KEM is known, L = 5 + Npk + S, and S
+-- it lies whole in the list
+abbrev pub isWhole : List ℕ → ℕ → Bool
+isWhole bytes at = leb (nextStart bytes at) (length bytes)
+
+-- 02, A1: "a configuration of at least 3 bytes that lies whole in the list and has an unknown KEM is now skipped"
+unfoldable pub isSkipped : List ℕ → ℕ → Bool
+isSkipped bytes at = isWhole bytes at and leb 3 (lengthAt bytes at) and not (knownKem (kemAt bytes at))
+
+-- the layout's rules for one configuration that is not: it lies whole in the list, its KEM is known, L = 5 + Npk + S, and S
 unfoldable pub layoutHolds : List ℕ → ℕ → Bool
 layoutHolds bytes at =
-    leb (nextStart bytes at) (length bytes)
+    isWhole bytes at
     and knownKem (kemAt bytes at)
     and eqb (lengthAt bytes at) (5 + publicKeyLength (kemAt bytes at) + pairBytesAt bytes at)
     and pairBytesHold (pairBytesAt bytes at)
@@ -94,14 +103,16 @@ abbrev pub followedBy : Configuration → Result (List Configuration) → Result
 followedBy c (good cs) = good (c ∷ cs)
 followedBy c (bad r) = bad r
 
--- the configurations from an offset on, where so many more may come and these key ids are taken
+-- the configurations from an offset on, where so many more may come and these key ids are taken; a skipped one is one of so many, and
+-- takes no key id
 unfoldable pub parseFrom : ℕ → List ℕ → List ℕ → ℕ → Result (List Configuration)
 parseFrom zero taken bytes at = pick (leb (length bytes) at) (good []) (bad (badList at))
 parseFrom (suc more) taken bytes at =
     pick (leb (length bytes) at) (good [])
+    (pick (isSkipped bytes at) (parseFrom more taken bytes (nextStart bytes at))
     (pick (layoutHolds bytes at and not (among taken (keyIdAt bytes at)))
     (followedBy (configurationAt bytes at) (parseFrom more (taken ++ keyIdAt bytes at ∷ []) bytes (nextStart bytes at)))
-    (bad (badList at)))
+    (bad (badList at))))
 
 -- a list is one configuration or more; a bad one is refused whole, at its first bad configuration
 unfoldable pub parse : List ℕ → Result (List Configuration)

@@ -2,15 +2,14 @@
 ghost use mathlib.Core.Path.{_≡_};
 ghost use Prim.Native.Nat.{_<_, _≤_};
 ghost use mathlib.Core.Bool.{not};
-ghost use lib.Dec.{ltb};
 ghost use lib.ListN.{length};
 ghost use Rattle.wire.specs.Tests.{_and_, pick};
 ghost use Rattle.wire.specs.Search.{among};
 ghost use Rattle.wire.specs.Refusals.{badList};
 ghost use Rattle.algorithms.specs.Sizes.{publicKeyLength};
-ghost use Rattle.keylist.specs.Layout.{parse, mostConfigurations, layoutHolds, pairBytesHold, keyIdAt, nextStart};
+ghost use Rattle.keylist.specs.Layout.{isSkipped, layoutHolds, pairBytesHold, keyIdAt, nextStart};
 ghost use Rattle.keylist.specs.Answers.{checked};
-ghost use Rattle.keylist.specs.Helpers.{placeAt};
+ghost use Rattle.keylist.specs.Helpers.{firstRead, placeAt};
 use crate::Checked;
 use crate::Place;
 use algorithms::Kem;
@@ -65,55 +64,92 @@ fn layout_holds(list: &[u8], at: usize) -> bool
     pair_bytes_hold(pair_bytes)
 }
 
-// The same, with its key id not taken and with fewer than the most configurations before it.
+// The same, and its key id is not taken.
 fn is_good(list: &[u8], at: usize, taken: &[u8]) -> bool
     requires { ⌜ at < length (now list) ⌝ }
-    ensures { λ r. ⌜ r ≡ (ltb (length (now (taken .entry))) mostConfigurations
-        and layoutHolds (now (list .entry)) at
+    ensures { λ r. ⌜ r ≡ (layoutHolds (now (list .entry)) at
         and not (among (now (taken .entry)) (keyIdAt (now (list .entry)) at))) ⌝ }
 {
-    if MOST_CONFIGURATIONS <= taken.len() {
-        return false;
-    }
     if !layout_holds(list, at) {
         return false;
     }
     !has_byte(taken, byte_at(list, at + 2))
 }
 
-// The number of configurations of a list, or 15 with the place of the first bad one.
+// The configuration at an offset is skipped: it lies whole in the list, has room for its KEM, and that is unknown.
+fn is_skipped(list: &[u8], at: usize) -> bool
+    ensures { λ r. ⌜ r ≡ isSkipped (now (list .entry)) at ⌝ }
+{
+    if list.len() <= at {
+        return false;
+    }
+    if list.len() < next_start(list, at) {
+        return false;
+    }
+    if word_at(list, at) < 3 {
+        return false;
+    }
+    key_length(word_at(list, at + 3)) == 0
+}
+
+// From an offset on, where the first configuration starts that is not skipped, or the list ends.
+pub fn first_read(list: &[u8], from: usize) -> usize
+    ensures { λ r. ⌜ r ≡ firstRead (now (list .entry)) from ⌝ }
+{
+    let mut at = from;
+    let mut more = MOST_CONFIGURATIONS;
+    while more != 0 {
+        if !is_skipped(list, at) {
+            return at;
+        }
+        at = next_start(list, at);
+        more -= 1;
+    }
+    at
+}
+
+// How many configurations of a list were read and how many skipped, or 15 with the place of the first bad one.
 pub fn check(list: &[u8]) -> Checked
-    ensures { λ r. ⌜ r ≡ checked (parse (now (list .entry))) ⌝ }
+    ensures { λ r. ⌜ r ≡ checked (now (list .entry)) ⌝ }
 {
     if list.len() == 0 {
         return Checked::Refused(Refusal::bad_list(0));
     }
     let mut taken = [0u8; MOST_CONFIGURATIONS];
-    let mut count = 0;
+    let mut read = 0;
+    let mut skipped = 0;
     let mut at = 0;
     while at < list.len() {
-        if !is_good(list, at, &taken[..count]) {
-            return outcome(false, count, at);
+        if MOST_CONFIGURATIONS <= read + skipped {
+            return outcome(false, read, skipped, at);
         }
-        taken[count] = byte_at(list, at + 2);
-        count += 1;
+        if is_skipped(list, at) {
+            skipped += 1;
+            at = next_start(list, at);
+            continue;
+        }
+        if !is_good(list, at, &taken[..read]) {
+            return outcome(false, read, skipped, at);
+        }
+        taken[read] = byte_at(list, at + 2);
+        read += 1;
         at = next_start(list, at);
     }
-    outcome(true, count, at)
+    outcome(true, read, skipped, at)
 }
 
-// So many configurations where the whole list is good; else 15 at the place, whatever was good before it.
-fn outcome(whole: bool, count: usize, place: usize) -> Checked
-    ensures { λ r. ⌜ r ≡ pick whole (Checked.Good count) (Checked.Refused (badList place)) ⌝ }
+// So many were read and skipped where the whole list is good; else 15 at the place, whatever was good before it.
+fn outcome(whole: bool, read: usize, skipped: usize, place: usize) -> Checked
+    ensures { λ r. ⌜ r ≡ pick whole (Checked.Good read skipped) (Checked.Refused (badList place)) ⌝ }
 {
     if whole {
-        Checked::Good(count)
+        Checked::Good(read, skipped)
     } else {
         Checked::Refused(Refusal::bad_list(place))
     }
 }
 
-// The fields of the configuration whose length stands at an offset, and where its parts lie.
+// The fields of the configuration whose length stands at an offset, where its parts lie, and where the next one that is read starts.
 pub fn place_at(list: &[u8], at: usize) -> Place
     ensures { λ r. ⌜ r ≡ placeAt (now (list .entry)) at ⌝ }
 {
@@ -123,7 +159,7 @@ pub fn place_at(list: &[u8], at: usize) -> Place
             kem: 0,
             key_start: 0,
             key_end: 0,
-            end: at,
+            next: at,
         };
     }
     let kem = word_at(list, at + 3);
@@ -132,7 +168,7 @@ pub fn place_at(list: &[u8], at: usize) -> Place
         kem,
         key_start: at + 5,
         key_end: at + 5 + key_length(kem),
-        end: next_start(list, at),
+        next: first_read(list, next_start(list, at)),
     }
 }
 

@@ -7,6 +7,7 @@ use crate::Checked;
 use crate::KeyId;
 use crate::KeyPlace;
 use crate::check::check;
+use crate::check::first_read;
 use crate::check::place_at;
 use wire::refusal::Refusal;
 
@@ -15,7 +16,7 @@ pub fn find(list: &[u8], id: KeyId) -> KeyPlace
     ensures { λ r. ⌜ r ≡ keyPlaceIn (id .0) (parse (now (list .entry))) ⌝ }
 {
     match check(list) {
-        Checked::Good(_) => find_in_good(list, id.0),
+        Checked::Good(_, _) => find_in_good(list, id.0),
         Checked::Refused(refusal) => KeyPlace::Refused(refusal),
     }
 }
@@ -35,13 +36,13 @@ fn find_in_good(list: &[u8], id: u8) -> KeyPlace
     requires { ⌜ IsGood (now list) ⌝ }
     ensures { λ r. ⌜ r ≡ keyPlaceIn id (parse (now (list .entry))) ⌝ }
 {
-    let mut at = 0;
+    let mut at = first_read(list, 0);
     while at < list.len() {
         let place = place_at(list, at);
         if place.key_id == id {
             return KeyPlace::Found(place.key_start, place.key_end);
         }
-        at = place.end;
+        at = place.next;
     }
     KeyPlace::Refused(Refusal::of(Refusal::NO_SUCH_KEY))
 }

@@ -15,9 +15,9 @@ pub struct Pair {
     pub aead: u16,
 }
 
-// The number of configurations, or the refusal.
+// How many configurations were read and how many skipped, or the refusal.
 pub enum Checked {
-    Good(usize),
+    Good(usize, usize),
     Refused(Refusal),
 }
 
@@ -27,11 +27,11 @@ pub enum KeyPlace {
     Refused(Refusal),
 }
 
-// The fields of one configuration, and where its parts lie: its pairs from two bytes behind the key up to the end.
+// The fields of one configuration, where its key lies, with its pairs two bytes behind it, and where the next one that is read starts.
 pub struct Place {
     pub key_id: u8,
     pub kem: u16,
     pub key_start: usize,
     pub key_end: usize,
-    pub end: usize,
+    pub next: usize,
 }

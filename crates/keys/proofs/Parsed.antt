@@ -1,18 +1,18 @@
 -- What is known of the configurations of a good list: there are at most 16, and no key id stands twice.
 -- Assumes nothing.
-use mathlib.Core.Path.{_≡_, refl, sym, _∙_}
+use mathlib.Core.Path.{_≡_, refl, sym}
 use mathlib.Core.Bool.{false, not}
 use mathlib.Core.List.{List, [], _∷_, _++_, map}
-use Prim.Native.Nat.{ℕ, zero, suc, _≤_, _<_}
+use Prim.Native.Nat.{ℕ, suc, _≤_}
 use native.Mathlib.Omega.{arith}
-use borrow.Author.Tests.{ltb-true, ltb-false, ne-eqb, eqb-false, not-true}
-use lib.Dec.{eqb, ltb}
+use borrow.Author.Tests.{ne-eqb, eqb-false, not-true}
+use lib.Dec.{eqb}
 use lib.ListN.{length}
 use Rattle.wire.specs.Search.{among, anyPasses}
 use Rattle.wire.proofs.Booleans.{either, and-right, true-or-false}
-use Rattle.keylist.specs.Layout.{Configuration, good, bad, parse, parseFrom, followedBy, configurationAt, layoutHolds, keyIdAt, nextStart, mostConfigurations, Result}
-use Rattle.keylist.proofs.Parsing.{goodAt, parse-end, parse-bad, parse-too-many, parse-more, parse-some, no-refusal}
-use Rattle.keylist.proofs.Walk.{not-empty}
+use Rattle.keylist.specs.Layout.{Configuration, good, parse, configurationAt, layoutHolds, keyIdAt, mostConfigurations}
+use Rattle.keylist.proofs.Parsing.{by-reading}
+use Rattle.keylist.proofs.Walk.{parse-all}
 
 -- no number stands twice
 abbrev pub Distinct : List ℕ → Type 0
@@ -59,43 +59,16 @@ parsed-one more taken c cs new p =
     let rest = fresh-fewer taken (c .keyId) (ids cs) (p .fresh) in
     record { few = omega (arith, p .few); distinct = (rest .1, p .distinct); fresh = (new, rest .0) }
 
--- the configurations that follow a first one
-after : (more : ℕ) (taken : List ℕ) (c : Configuration) (p : Result (List Configuration)) (cs : List Configuration)
-    → among taken (c .keyId) ≡ false → ((rest : List Configuration) → p ≡ good rest → Parsed more (taken ++ c .keyId ∷ []) rest)
-    → followedBy c p ≡ good cs → Parsed (suc more) taken cs
-after more taken c (bad r) cs new of e = no-refusal e
-after more taken c (good rest) cs new of e =
-    let same : c ∷ rest ≡ cs = cc in
-    rw (sym same) (parsed-one more taken c rest new (of rest refl))
+parsed-skip : (more : ℕ) (taken : List ℕ) (cs : List Configuration) → Parsed more taken cs → Parsed (suc more) taken cs
+parsed-skip more taken cs p = record { few = omega (arith, p .few); distinct = p .distinct; fresh = p .fresh }
 
-module _ (bytes : List ℕ) where
-  -- at the end of the list
-  parsed-end : (more : ℕ) (taken : List ℕ) (at : ℕ) (cs : List Configuration) → length bytes ≤ at
-      → parseFrom more taken bytes at ≡ good cs → Parsed more taken cs
-  parsed-end more taken at cs h e =
-      let none : good [] ≡ good cs = sym (parse-end more taken bytes at h) ∙ e in
-      let same : [] ≡ cs = cc in
-      rw (sym same) (parsed-none more taken)
-
-  parsed-from : (more : ℕ) (taken : List ℕ) (at : ℕ) (cs : List Configuration) → parseFrom more taken bytes at ≡ good cs
-      → Parsed more taken cs
-  unfolding configurationAt
-  parsed-from zero taken at cs e =
-      either (ltb at (length bytes))
-      (λ h. no-refusal (sym (parse-too-many zero taken bytes at (ltb-true at (length bytes) h) refl) ∙ e))
-      (λ h. parsed-end zero taken at cs (ltb-false at (length bytes) h) e)
-  parsed-from (suc more) taken at cs e =
-      either (ltb at (length bytes))
-      (λ h.
-      let inside : at < length bytes = ltb-true at (length bytes) h in
-      either (goodAt taken bytes at)
-      (λ g.
-      after more taken (configurationAt bytes at) (parseFrom more (taken ++ keyIdAt bytes at ∷ []) bytes (nextStart bytes at)) cs
-      (not-true _ (and-right (layoutHolds bytes at) (not (among taken (keyIdAt bytes at))) g))
-      (parsed-from more (taken ++ keyIdAt bytes at ∷ []) (nextStart bytes at))
-      (sym (parse-more more taken bytes at inside g) ∙ e))
-      (λ g. no-refusal (sym (parse-bad (suc more) taken bytes at inside g) ∙ e)))
-      (λ h. parsed-end (suc more) taken at cs (ltb-false at (length bytes) h) e)
-
-  pub parsed : (cs : List Configuration) → parse bytes ≡ good cs → Parsed mostConfigurations [] cs
-  parsed cs e = parsed-from mostConfigurations [] 0 cs (sym (parse-some bytes (not-empty bytes cs e)) ∙ e)
+pub parsed : (bytes : List ℕ) (cs : List Configuration) → parse bytes ≡ good cs → Parsed mostConfigurations [] cs
+unfolding configurationAt
+parsed bytes cs e =
+    by-reading bytes (λ more taken at rest. Parsed more taken rest)
+    (λ more taken at h. parsed-none more taken)
+    (λ more taken at rest k read p. parsed-skip more taken rest p)
+    (λ more taken at rest g read p.
+    parsed-one more taken (configurationAt bytes at) rest
+    (not-true _ (and-right (layoutHolds bytes at) (not (among taken (keyIdAt bytes at))) g)) p)
+    mostConfigurations [] 0 cs (parse-all bytes cs e)

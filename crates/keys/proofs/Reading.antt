@@ -10,6 +10,7 @@ use lib.Seq.{append-snoc}
 use Rattle.wire.specs.Bytes.{wordAt}
 use Rattle.keylist.specs.declared.Pair.{Pair}
 use Rattle.keylist.specs.Layout.{Configuration, good, parse, configurationAt, layoutHolds, keyIdAt, kemAt, pairBytesAt, pairsStart, nextStart, pairsAt, mostConfigurations}
+use Rattle.keylist.specs.Helpers.{firstRead}
 use Rattle.keylist.proofs.LayoutLaws.{good-layout}
 use Rattle.keylist.proofs.Walk.{GoodFrom, walk-start, walk-next, walk-end}
 use Rattle.keys.specs.declared.KeyState.{KeyState}
@@ -57,14 +58,13 @@ pub record Read (bytes : List ℕ) (at : ℕ) (stored : List KeyState) (count : 
   pub whole : parse bytes ≡ good (done ++ walk .rest)
   pub filled : stored ≡ padded mostConfigurations blankKey (map storedKey done)
   pub counted : count ≡ length done
-  pub within : at ≤ length bytes
 
 module _ (bytes : List ℕ) where
   pub read-start : (cs : List Configuration) → parse bytes ≡ good cs
-      → Read bytes 0 (padded mostConfigurations blankKey []) 0
+      → Read bytes (firstRead bytes 0) (padded mostConfigurations blankKey []) 0
   unfolding walk-start
   read-start cs e =
-      record { walk = walk-start bytes cs e; done = []; whole = e; filled = refl; counted = refl; within = omega arith }
+      record { walk = walk-start bytes cs e; done = []; whole = e; filled = refl; counted = refl }
 
   module _ {at count : ℕ} {stored : List KeyState} (r : Read bytes at stored count) where
     -- there is room for the next key
@@ -75,7 +75,7 @@ module _ (bytes : List ℕ) where
         omega (arith, r .counted, simp length-append at (rw (n .first) at all))
 
     pub read-next : (h : at < length bytes)
-        → Read bytes (nextStart bytes at) (set stored count (storedKey (configurationAt bytes at))) (count + 1)
+        → Read bytes (firstRead bytes (nextStart bytes at)) (set stored count (storedKey (configurationAt bytes at))) (count + 1)
     read-next h =
         let n = walk-next bytes at (r .walk) h in
         let c = configurationAt bytes at in
@@ -87,8 +87,10 @@ module _ (bytes : List ℕ) where
               (set-padded mostConfigurations blankKey (map storedKey (r .done)) count (storedKey c)
               (length-map (r .done) storedKey ∙ sym (r .counted)) (read-room h));
           counted = simp length-append (omega (arith, r .counted));
-          within = n .holding .whole;
         }
+
+    pub read-onward : at < length bytes → at < firstRead bytes (nextStart bytes at)
+    read-onward h = walk-next bytes at (r .walk) h .onward
 
     -- no more keys were read than there is room for
     pub read-few : count ≤ 16

@@ -6,7 +6,7 @@ use lib.Dec.{eqb, leb, ltb}
 use lib.ListN.{length, getD}
 use Rattle.wire.specs.Tests.{pick}
 use Rattle.wire.specs.Refusals.{_when_otherwise_}
-use Rattle.keylist.specs.Layout.{Configuration, Result, good, bad, mostConfigurations}
+use Rattle.keylist.specs.Layout.{Configuration, Result, good, bad, mostConfigurations, parse}
 use Rattle.keylist.specs.Answers.{checked}
 use Rattle.request.specs.declared.Request.{Request}
 use Rattle.keys.specs.declared.Keys.{Keys}
@@ -66,5 +66,5 @@ unfolding storedKeys
 keysFrom (good cs) = storedKeys cs
 keysFrom (bad r) = storedKeys []
 
-abbrev pub keysRead : Result (List Configuration) → KeysRead
-keysRead outcome = record { keys = keysFrom outcome; checked = checked outcome }
+abbrev pub keysRead : List ℕ → KeysRead
+keysRead bytes = record { keys = keysFrom (parse bytes); checked = checked bytes }

@@ -19,6 +19,7 @@ use keylist::Pair;
 use keylist::check::MOST_CONFIGURATIONS;
 use keylist::check::MOST_PAIR_BYTES;
 use keylist::check::check;
+use keylist::check::first_read;
 use keylist::check::place_at;
 use request::Request;
 use wire::bytes::word_at;
@@ -191,13 +192,13 @@ impl Keys {
 
     // The keys of a list, none of them used or retired.
     pub fn read(list: &[u8]) -> KeysRead
-        ensures { λ r. ⌜ r ≡ keysRead (parse (now (list .entry))) ⌝ }
+        ensures { λ r. ⌜ r ≡ keysRead (now (list .entry)) ⌝ }
     {
         let checked = check(list);
         match checked {
-            Checked::Good(count) => KeysRead {
+            Checked::Good(read, skipped) => KeysRead {
                 keys: read_good(list),
-                checked: Checked::Good(count),
+                checked: Checked::Good(read, skipped),
             },
             Checked::Refused(refusal) => KeysRead {
                 keys: Keys::none(),
@@ -323,11 +324,11 @@ fn read_good(list: &[u8]) -> Keys
 {
     let mut keys = Keys::none();
     let mut count = 0;
-    let mut at = 0;
+    let mut at = first_read(list, 0);
     while at < list.len() {
         keys.list[count] = key_at(list, at);
         count += 1;
-        at = place_at(list, at).end;
+        at = place_at(list, at).next;
     }
     keys.count = count as u8;
     keys

@@ -21,7 +21,7 @@ use Rattle.algorithms.specs.Sizes.{knownKem, publicKeyLength}
 use Rattle.algorithms.proofs.Stated.{size-bounds}
 use Rattle.keylist.specs.Layout.{Configuration, good, bad, lengthAt, keyIdAt, kemAt, keyStart, keyEnd, pairBytesAt, pairsAt, pairsStart, configurationAt, layoutHolds, parseFrom, parse, mostConfigurations, Result}
 use Rattle.keylist.proofs.LayoutLaws.{both}
-use Rattle.keylist.proofs.Parsing.{no-refusal, parse-end}
+use Rattle.keylist.proofs.Parsing.{no-refusal, parse-end, parse-more}
 use Rattle.listwriter.specs.Writer.{Fields, noneLeft, wordsBytes}
 use Rattle.listwriter.specs.Helpers.{firstHolds}
 use Rattle.listwriter.specs.Stated.{pairNumbers, idsOf, asFields, ReadAfterWrite}
@@ -135,10 +135,10 @@ module _ (bytes : List ℕ) (at id : ℕ) (f : Fields) (rest : List ℕ) (says :
 
   read-first : (more : ℕ) (taken ids : List ℕ) → not (among taken id) ≡ true
       → ReadBack more (taken ++ id ∷ []) bytes (at + 2 + firstLength f) ids (behindFirst f) → ReadBack (suc more) taken bytes at (id ∷ ids) f
-  unfolding parseFrom configurationAt
+  unfolding configurationAt
   read-first more taken ids fresh (cs, parsed, sameIds, sameFields) = (
     configurationAt bytes at ∷ cs,
-    rw (lt-leb (length bytes) at (omega (arith, inside)), layout-read, id-read, fresh, size-read, parsed),
+    rw (parse-more more taken bytes at (rw (layout-read, id-read) fresh), id-read, size-read, parsed),
     ap₂ (λ i is. i ∷ is) id-read sameIds,
     fields-read cs sameFields,
   )

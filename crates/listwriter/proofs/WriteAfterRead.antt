@@ -1,4 +1,4 @@
--- Writing what was read by the layout gives the same bytes: specs/Stated's WriteAfterRead.
+-- Writing what was read by the layout gives the same bytes, where none was skipped: specs/Stated's WriteAfterRead and SkippedIsNotWritten.
 -- Assumes nothing.
 use mathlib.Core.Path.{_≡_, refl, sym, _∙_}
 use mathlib.Core.Bool.{Bool, true, false, not}
@@ -10,19 +10,21 @@ use native.Mathlib.Omega.{arith}
 use lib.Dec.{leb}
 use lib.ListN.{length, drop, take-append-drop, length-append, length-drop, drop-of-length-le}
 use lib.Seq.{length-take-le, take-append-seam, drop-append-seam, drop-drop, drop-cons}
-use borrow.Author.Tests.{leb-true, le-leb, eq-eqb}
+use borrow.Author.Tests.{leb-true, leb-false, le-leb, eq-eqb}
 use Rattle.wire.specs.Tests.{pick, _and_}
 use Rattle.wire.specs.Bytes.{byteAt, wordAt, wordBytes, part}
-use Rattle.listwriter.specs.Writer.{wordsBytes}
-use Rattle.wire.specs.Search.{among}
+use Rattle.listwriter.specs.Writer.{wordsBytes, encode, encodeBehind, cut}
+use Rattle.wire.specs.Search.{among, anyPasses, firstPlace}
 use Rattle.wire.specs.Refusals.{badList}
 use Rattle.wire.proofs.Booleans.{either, and-left, and-right}
 use Rattle.algorithms.specs.Sizes.{knownKem, publicKeyLength}
-use Rattle.keylist.specs.Layout.{Configuration, good, bad, lengthAt, keyIdAt, kemAt, keyStart, keyEnd, pairBytesAt, pairsAt, pairsStart, nextStart, configurationAt, pairBytesHold, layoutHolds, followedBy, parseFrom, parse, mostConfigurations, Result}
-use Rattle.keylist.proofs.LayoutLaws.{Holds, holds}
-use Rattle.keylist.proofs.Parsing.{no-refusal}
+use Rattle.algorithms.specs.Table.{rowOf, table}
+use Rattle.keylist.specs.Edges.{edgeList, hex}
+use Rattle.keylist.specs.Layout.{Configuration, good, bad, lengthAt, keyIdAt, kemAt, keyStart, keyEnd, pairBytesAt, pairsAt, pairsStart, nextStart, configurationAt, isSkipped, pairBytesHold, layoutHolds, followedBy, parseFrom, parse, mostConfigurations, Result}
+use Rattle.keylist.proofs.LayoutLaws.{Holds, held-not-skipped}
+use Rattle.keylist.proofs.Parsing.{by-reading, holding, no-refusal, skipsFrom, skips-one, skips-none}
 use Rattle.listwriter.specs.Helpers.{firstHolds}
-use Rattle.listwriter.specs.Stated.{AreBytes, pairNumbers, idsOf, asFields, WriteAfterRead}
+use Rattle.listwriter.specs.Stated.{AreBytes, pairNumbers, idsOf, asFields, SkippedIsNotWritten, WriteAfterRead}
 use Rattle.listwriter.proofs.FlatFields.{behindFirst, firstLength, firstBytes, encodeFrom, walk, same-fields, first-laid, end-given}
 use Rattle.listwriter.proofs.Cutting.{encode-is-walk}
 
@@ -124,43 +126,30 @@ module _ (bytes : List ℕ) (all : AreBytes bytes) (at : ℕ) (says : Holds byte
       let holds = first-holds (configurationAt bytes at) cs (says .kem) key-length (rw pairs-size (says .pairs .0)) in
       rw (bytes-written, holds, fresh, size-written, behind-first (configurationAt bytes at) cs, encoded)
 
--- a result comes from no refusal, so the tests on its way held
-first-given : (test : Bool) (c : Configuration) (o : Result (List Configuration)) (at : ℕ) {cs : List Configuration}
-    → pick test (followedBy c o) (bad (badList at)) ≡ good cs
-    → (rest : List Configuration) × (test ≡ true) × (o ≡ good rest) × (c ∷ rest ≡ cs)
-first-given true c (good rest) at e = (rest, refl, refl, cc)
-first-given true c (bad r) at e = no-refusal e
-first-given false c o at e = no-refusal e
-
 -- writing what was read from an offset gives the bytes from there on
-write-end : (more : ℕ) (taken bytes : List ℕ) (at : ℕ) (cs : List Configuration) → length bytes ≤ at → [] ≡ cs
-    → encodeFrom more taken at (idsOf cs) (asFields cs) ≡ good (drop at bytes)
+write-from : (bytes : List ℕ) (more : ℕ) (taken : List ℕ) (at : ℕ) (cs : List Configuration) → AreBytes bytes → parseFrom more taken bytes at ≡ good cs
+    → skipsFrom more bytes at ≡ 0 → encodeFrom more taken at (idsOf cs) (asFields cs) ≡ good (drop at bytes)
 unfolding encodeFrom flatMap
-write-end more taken bytes at cs h e = rw (← e, drop-of-length-le bytes h)
-
-write-from : (more : ℕ) (taken bytes : List ℕ) (at : ℕ) (cs : List Configuration) → AreBytes bytes
-    → parseFrom more taken bytes at ≡ good cs → encodeFrom more taken at (idsOf cs) (asFields cs) ≡ good (drop at bytes)
-unfolding parseFrom
-write-from zero taken bytes at cs all e =
-    let (end, nothing) = end-given (leb (length bytes) at) at e in
-    write-end zero taken bytes at cs (leb-true (length bytes) at end) nothing
-write-from (suc more) taken bytes at cs all e =
-    either (leb (length bytes) at)
-    (λ end. write-end (suc more) taken bytes at cs (leb-true (length bytes) at end) (cc))
-    (λ inside.
-    let fresh = not (among taken (keyIdAt bytes at)) in
-    let parsedRest = parseFrom more (taken ++ keyIdAt bytes at ∷ []) bytes (nextStart bytes at) in
-    let (rest, test, parsed, whole) = first-given (layoutHolds bytes at and fresh) (configurationAt bytes at) parsedRest at (rw inside at e) in
-    let says = holds bytes at (and-left (layoutHolds bytes at) fresh test) in
-    rw (← whole)
-    (write-first bytes all at says rest more taken (and-right (layoutHolds bytes at) fresh test)
-    (write-from more (taken ++ keyIdAt bytes at ∷ []) bytes (nextStart bytes at) rest all parsed)))
+write-from bytes more taken at cs all =
+    by-reading bytes
+    (λ more taken at cs. skipsFrom more bytes at ≡ 0 → encodeFrom more taken at (idsOf cs) (asFields cs) ≡ good (drop at bytes))
+    (λ more taken at h none. rw (drop-of-length-le bytes h))
+    (λ more taken at cs k parsed written none. absurd (omega (arith, none, skips-one more bytes at k)))
+    (λ more taken at cs g parsed written none.
+    let h = holding bytes taken at g in
+    write-first bytes all at h cs more taken (and-right (layoutHolds bytes at) (not (among taken (keyIdAt bytes at))) g)
+    (written (sym (skips-none more bytes at (omega (arith, h .whole)) (held-not-skipped bytes at h)) ∙ none)))
+    more taken at cs
 
 pub write-after-read : WriteAfterRead
 unfolding walk parse encodeFrom flatMap
-write-after-read [] cs all e = no-refusal e
-write-after-read (b ∷ bytes) [] all e =
-    let written : _≡_ {A = Result (List ℕ)} (good []) (good (b ∷ bytes)) = write-from mostConfigurations [] (b ∷ bytes) 0 [] all e in
+write-after-read [] cs all none e = no-refusal e
+write-after-read (b ∷ bytes) [] all none e =
+    let written : _≡_ {A = Result (List ℕ)} (good []) (good (b ∷ bytes)) = write-from (b ∷ bytes) mostConfigurations [] 0 [] all e none in
     absurd (let z : _≡_ {A = ℕ} 0 1 = cc in omega arith)
-write-after-read (b ∷ bytes) (c ∷ cs) all e =
-    encode-is-walk (idsOf (c ∷ cs)) (asFields (c ∷ cs)) ∙ write-from mostConfigurations [] (b ∷ bytes) 0 (c ∷ cs) all e
+write-after-read (b ∷ bytes) (c ∷ cs) all none e =
+    encode-is-walk (idsOf (c ∷ cs)) (asFields (c ∷ cs)) ∙ write-from (b ∷ bytes) mostConfigurations [] 0 (c ∷ cs) all e none
+
+pub skipped-is-not-written : SkippedIsNotWritten
+unfolding edgeList hex parse parseFrom isSkipped layoutHolds configurationAt pairsAt knownKem publicKeyLength rowOf table firstPlace anyPasses encode encodeBehind cut flatMap
+skipped-is-not-written = record { read = refl; written = refl; lengths = refl }

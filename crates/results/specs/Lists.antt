@@ -1,4 +1,5 @@
--- The answers about key lists, as a host gets them: the number of configurations; where a key starts and ends; the length written.
+-- The answers about key lists, as a host gets them: how many configurations were read and how many skipped; where a key starts and ends; the
+-- length written.
 use Rattle.keylist.specs.declared.Checked.{Checked}
 use Rattle.keylist.specs.declared.KeyPlace.{KeyPlace}
 use Rattle.listwriter.specs.declared.Written.{Written}
@@ -6,9 +7,9 @@ use Rattle.results.specs.declared.outcome.NumberResult.{NumberResult}
 use Rattle.results.specs.declared.outcome.TwoNumbersResult.{TwoNumbersResult}
 use Rattle.results.specs.Outcome.{withNumber, refusedNumber, withTwoNumbers, refusedTwoNumbers}
 
-abbrev pub checkResult : Checked → NumberResult
-checkResult (Checked.Good n) = withNumber n
-checkResult (Checked.Refused r) = refusedNumber r
+abbrev pub checkResult : Checked → TwoNumbersResult
+checkResult (Checked.Good read skipped) = withTwoNumbers read skipped
+checkResult (Checked.Refused r) = refusedTwoNumbers r
 
 abbrev pub keyResult : KeyPlace → TwoNumbersResult
 keyResult (KeyPlace.Found from to) = withTwoNumbers from to

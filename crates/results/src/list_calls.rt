@@ -7,12 +7,12 @@ use keylist::Checked;
 use keylist::KeyPlace;
 use listwriter::Written;
 
-pub fn check_result(checked: Checked) -> NumberResult
+pub fn check_result(checked: Checked) -> TwoNumbersResult
     ensures { λ r. ⌜ r ≡ checkResult checked ⌝ }
 {
     match checked {
-        Checked::Good(configurations) => NumberResult::of(configurations),
-        Checked::Refused(refusal) => NumberResult::refused(refusal),
+        Checked::Good(read, skipped) => TwoNumbersResult::of(read, skipped),
+        Checked::Refused(refusal) => TwoNumbersResult::refused(refusal),
     }
 }
 

@@ -85,9 +85,9 @@ fn put_check(line: Line, bytes: &[u8], out: &mut OutputBuffer, at: usize) -> usi
         out,
         at,
         result.outcome,
-        b"good configurations=%",
-        result.number,
-        0,
+        b"good configurations=% skipped=%",
+        result.first as u64,
+        result.second as u64,
     )
 }
 

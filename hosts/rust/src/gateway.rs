@@ -69,6 +69,7 @@ pub struct Gateway {
 
 impl Gateway {
     /// Makes a fresh gateway of a key list and a cap, the uses allowed per key, 1 to 1,000,000,000.
+    /// A skipped configuration ([`crate::KeyList::check`] says how many there are) makes no key.
     /// Refusals: 15, 17.
     pub fn setup(list: &[u8], cap: u64) -> Result<Gateway, Refusal> {
         let (memory, result) = raw::setup(list, cap);
@@ -194,6 +195,16 @@ mod tests {
 
     fn number<T>(answer: Result<T, Refusal>) -> u8 {
         answer.err().map_or(0, Refusal::number)
+    }
+
+    #[test]
+    fn setup_of_skipped_configurations() {
+        let unknown = [0x00, 0x03, 0x07, 0x00, 0x30];
+        let list = [&edge_list()[..], &unknown].concat();
+        assert_eq!(Gateway::setup(&list, 1).unwrap().report().keys.len(), 1);
+        let mut without = Gateway::setup(&unknown, 1).unwrap();
+        assert_eq!(without.report().keys, []);
+        assert_eq!(number(without.admit(&request(16))), 4);
     }
 
     #[test]

@@ -29,10 +29,11 @@ pub struct Configuration<'c> {
 /// A key list (RFC 9458, 3), the media type `application/ohttp-keys`, over the bytes that hold it.
 ///
 /// Every call reads the whole list first, and a list with one bad configuration is refused whole:
-/// 15, with the place of the first bad one.
+/// 15, with the place of the first bad one. A configuration with an unknown KEM is not bad but
+/// skipped: the calls go on as if it were not there, and [`KeyList::check`] says how many there are.
 ///
 /// ```
-/// use sealwax::{Configuration, KeyList, Pair};
+/// use sealwax::{Checked, Configuration, KeyList, Pair};
 ///
 /// let pairs = [Pair { kdf: 0x0001, aead: 0x0001 }, Pair { kdf: 0x0001, aead: 0x0003 }];
 /// let bytes = KeyList::write(&[Configuration {
@@ -42,8 +43,15 @@ pub struct Configuration<'c> {
 ///     pairs: &pairs,
 /// }])?;
 /// let list = KeyList::new(&bytes);
-/// assert_eq!(list.check()?, 1);
+/// assert_eq!(list.check()?, Checked { configurations: 1, skipped: 0 });
 /// assert_eq!(list.key(7)?, [0x11; 32]);
+///
+/// // A list that has gained a configuration with the KEM 0x0030, which is unknown here.
+/// let longer = [&bytes[..], &[0x00, 0x03, 0x08, 0x00, 0x30]].concat();
+/// let list = KeyList::new(&longer);
+/// assert_eq!(list.check()?, Checked { configurations: 1, skipped: 1 });
+/// assert_eq!(list.key(7)?, [0x11; 32]);
+/// assert_eq!(list.key(8).unwrap_err().number(), 4);
 ///
 /// let damaged = KeyList::new(&bytes[..46]);
 /// assert_eq!(
@@ -55,6 +63,15 @@ pub struct Configuration<'c> {
 #[derive(Clone, Copy, Debug, PartialEq, Eq)]
 pub struct KeyList<'l> {
     bytes: &'l [u8],
+}
+
+/// What a good list has.
+#[derive(Clone, Copy, Debug, PartialEq, Eq)]
+pub struct Checked {
+    /// How many configurations were read.
+    pub configurations: usize,
+    /// How many were skipped, since their KEM is unknown. Worth a line in a log.
+    pub skipped: usize,
 }
 
 /// What a client uses of a list.
@@ -76,10 +93,14 @@ impl<'l> KeyList<'l> {
         KeyList { bytes }
     }
 
-    /// How many configurations a good list has. Refusal: 15.
-    pub fn check(self) -> Result<usize, Refusal> {
+    /// How many configurations of a good list were read, and how many skipped. Refusal: 15.
+    pub fn check(self) -> Result<Checked, Refusal> {
         let result = raw::check(self.bytes);
-        Refusal::or(result.outcome, result.configurations)
+        let checked = Checked {
+            configurations: result.configurations,
+            skipped: result.skipped,
+        };
+        Refusal::or(result.outcome, checked)
     }
 
     /// The public key of a key id, a part of the list. Refusals: 15, 4.
@@ -176,11 +197,18 @@ pub(crate) mod tests {
         [&start[..], &[0x11; 32], &end].concat()
     }
 
+    fn checked(configurations: usize, skipped: usize) -> Result<Checked, Refusal> {
+        Ok(Checked {
+            configurations,
+            skipped,
+        })
+    }
+
     #[test]
     fn the_edge_list() {
         let bytes = edge_list();
         let list = KeyList::new(&bytes);
-        assert_eq!(list.check(), Ok(1));
+        assert_eq!(list.check(), checked(1, 0));
         let key = list.key(7).unwrap();
         // A part of the list, not a copy.
         assert!(std::ptr::eq(key, &bytes[5..37]));
@@ -188,6 +216,34 @@ pub(crate) mod tests {
         let twice = [&bytes[..], &bytes].concat();
         let refusal = KeyList::new(&twice).check().unwrap_err();
         assert!(matches!(refusal, Refusal::BadKeyList { place: 43, .. }));
+    }
+
+    #[test]
+    fn a_skipped_configuration() {
+        // Of 3 bytes, with the key id of the one that is read.
+        let unknown = [0x00, 0x03, 0x07, 0x00, 0x30];
+        let bytes = [&unknown[..], &edge_list()].concat();
+        let list = KeyList::new(&bytes);
+        assert_eq!(list.check(), checked(1, 1));
+        assert!(std::ptr::eq(list.key(7).unwrap(), &bytes[10..42]));
+        let choice = list.choose(&[0x0030, 0x0020], EDGE.pairs).unwrap();
+        assert_eq!(
+            (choice.kem, choice.public_key),
+            (0x0020, list.key(7).unwrap())
+        );
+        let nothing = KeyList::new(&unknown);
+        assert_eq!(nothing.check(), checked(0, 1));
+        assert_eq!(nothing.key(7).unwrap_err().number(), 4);
+        let refusal = nothing.choose(&[0x0030], EDGE.pairs).unwrap_err();
+        assert_eq!(refusal.number(), 16);
+        // The longest list that may be good, and one that is longer.
+        let mut longest = vec![0; raw::LONGEST_LIST_READ];
+        for configuration in longest.chunks_mut(65_537) {
+            configuration[..2].fill(0xff);
+        }
+        assert_eq!(KeyList::new(&longest).check(), checked(0, 16));
+        longest.extend(unknown);
+        assert_eq!(KeyList::new(&longest).check().unwrap_err().number(), 15);
     }
 
     #[test]
@@ -219,7 +275,7 @@ pub(crate) mod tests {
             .collect();
         let list = KeyList::write(&all).unwrap();
         assert_eq!(list.len(), raw::LONGEST_LIST);
-        assert_eq!(KeyList::new(&list).check(), Ok(16));
+        assert_eq!(KeyList::new(&list).check(), checked(16, 0));
         all.push(Configuration {
             key_id: 16,
             ..longest

@@ -122,6 +122,9 @@ pub use bytes::Bytes;
 pub use client::{exporter, head, split, Exporter, Head};
 pub use exchange::{Asked, Opened, Refused, Sealed};
 pub use gateway::{Gateway, KeyReport, Report, Ticket};
-pub use key_list::{Choice, Configuration, KeyList, Pair};
-pub use raw::{EXPORTER_CONTEXT_LENGTH, INFO_LENGTH, LONGEST_HEAD, LONGEST_LIST, LONGEST_SALT};
+pub use key_list::{Checked, Choice, Configuration, KeyList, Pair};
+pub use raw::{
+    EXPORTER_CONTEXT_LENGTH, INFO_LENGTH, LONGEST_HEAD, LONGEST_LIST, LONGEST_LIST_READ,
+    LONGEST_SALT,
+};
 pub use refusal::{Refusal, Unprotected, OHTTP_KEY};

@@ -17,8 +17,11 @@ pub const LONGEST_SALT: usize = 165;
 pub const LONGEST_HEAD: usize = 140;
 /// The length of the exporter context.
 pub const EXPORTER_CONTEXT_LENGTH: usize = 22;
-/// The length of the longest key list.
+/// The length of the longest key list that is written.
 pub const LONGEST_LIST: usize = 3264;
+/// The length of the longest key list that may be good: sixteen configurations, all but those that
+/// are read as long as two length bytes can say.
+pub const LONGEST_LIST_READ: usize = 16 * (2 + 65_535);
 /// The most keys of a gateway.
 pub const MOST_KEYS: usize = 16;
 /// The size of a gateway in bytes.
@@ -106,6 +109,7 @@ pub struct ReportResult {
 pub struct CheckResult {
     pub outcome: Outcome,
     pub configurations: usize,
+    pub skipped: usize,
 }
 
 #[repr(C)]
@@ -185,7 +189,7 @@ const _: () = assert!(size_of::<OpenResult>() == 32);
 const _: () = assert!(size_of::<RespondResult>() == 32);
 const _: () = assert!(size_of::<KeyReport>() == 12);
 const _: () = assert!(size_of::<ReportResult>() == 240);
-const _: () = assert!(size_of::<CheckResult>() == 32);
+const _: () = assert!(size_of::<CheckResult>() == 40);
 const _: () = assert!(size_of::<KeyResult>() == 40);
 const _: () = assert!(size_of::<WriteResult>() == 32);
 const _: () = assert!(size_of::<ChooseResult>() == 48);

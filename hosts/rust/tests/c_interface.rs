@@ -257,10 +257,12 @@ impl Both {
 fn without_gateway(call: &Call) -> Outcome {
     match call {
         Call::Check { list } => {
-            let (outcome, configurations) = expect(read_list(list).map(|read| read.len()));
+            let read = read_list(list).map(|read| (read.configurations.len(), read.skipped));
+            let (outcome, (configurations, skipped)) = expect(read);
             let expected = raw::CheckResult {
                 outcome,
                 configurations,
+                skipped,
             };
             assert_eq!(raw::check(list), expected);
             outcome

@@ -12,7 +12,9 @@ use reference::gateway;
 use reference::keeper::{Keeper, Opening};
 use reference::list_writer::Fields;
 use reference::refusal::{is_key_problem, status};
-use sealwax::{Asked, Configuration, Gateway, KeyList, Opened, Pair, Refusal, Ticket, OHTTP_KEY};
+use sealwax::{
+    Asked, Checked, Configuration, Gateway, KeyList, Opened, Pair, Refusal, Ticket, OHTTP_KEY,
+};
 use std::collections::BTreeMap;
 
 /// A lent buffer is too small: types rule this out, so such a call is made to the reference alone.
@@ -291,7 +293,10 @@ fn open(gateway: &mut Gateway, ticket: u64, success: bool, n: usize) -> Result<O
 fn without_gateway(call: &Call) {
     match call {
         Call::Check { list } => {
-            let expected = reference::key_list::read_list(list).map(|read| read.len());
+            let expected = reference::key_list::read_list(list).map(|read| Checked {
+                configurations: read.configurations.len(),
+                skipped: read.skipped,
+            });
             same(KeyList::new(list).check(), expected);
         }
         Call::Key { list, key_id } => {

@@ -1,7 +1,7 @@
 //! The calls of the client side and on key lists.
 
 use super::key_lists::{
-    configurations, kem, known_number, nearly_right, number, small, small_count, unknown_kem,
+    configurations, kem, known_number, long, nearly_right, number, small, small_count, unknown_kem,
     unknown_number, KEMS,
 };
 use crate::algorithms::{nenc, response_nonce_length, HEAD_LENGTH};
@@ -10,6 +10,7 @@ use crate::client::EXPORTER_CONTEXT;
 use crate::key_list::{read_list, Configuration};
 use crate::list_writer::{encode, Fields};
 use crate::random::Random;
+use crate::skipped::skipped;
 
 /// A longer list of the last setup is used seldom, so that lines stay short.
 const SHORT_LIST: usize = 150;
@@ -20,8 +21,11 @@ pub fn check(random: &mut Random, last: &[u8]) -> String {
 
 pub fn key(random: &mut Random, last: &[u8]) -> String {
     let list = some_list(random, last);
-    let read = read_list(&list).unwrap_or_default();
-    let id = if read.is_empty() || random.one_in(4) {
+    let read = read_list(&list).unwrap_or_default().configurations;
+    let skipped = skipped(&list);
+    let id = if !skipped.is_empty() && random.one_in(3) {
+        random.pick(&skipped).id
+    } else if read.is_empty() || random.one_in(4) {
         random.byte()
     } else {
         read[random.below(read.len())].id
@@ -31,8 +35,12 @@ pub fn key(random: &mut Random, last: &[u8]) -> String {
 
 pub fn choose(random: &mut Random, last: &[u8]) -> String {
     let list = some_list(random, last);
-    let read = read_list(&list).unwrap_or_default();
-    let kems = client_kems(random, &read);
+    let read = read_list(&list).unwrap_or_default().configurations;
+    let mut kems = client_kems(random, &read);
+    // The client may know a KEM that is unknown here.
+    if random.one_in(2) {
+        kems.splice(0..0, skipped(&list).iter().map(|one| one.kem));
+    }
     let pairs = client_pairs(random, &read);
     format!(
         "choose {} {} {}",
@@ -42,8 +50,11 @@ pub fn choose(random: &mut Random, last: &[u8]) -> String {
     )
 }
 
-/// The last setup's list, a good one or a nearly right one.
+/// The last setup's list, a good one or a nearly right one; seldom one that is very long.
 fn some_list(random: &mut Random, last: &[u8]) -> Vec<u8> {
+    if random.one_in(400) {
+        return long(random);
+    }
     let use_last = last.len() <= SHORT_LIST || random.one_in(20);
     match random.below(10) {
         0..=3 if use_last => last.to_vec(),
@@ -184,7 +195,7 @@ pub fn write(random: &mut Random, last: &[u8]) -> String {
 /// What the last setup's list holds, or new configurations.
 fn given_configurations(random: &mut Random, last: &[u8]) -> Vec<Fields> {
     let use_last = last.len() <= SHORT_LIST || random.one_in(20);
-    let read = read_list(last).unwrap_or_default();
+    let read = read_list(last).unwrap_or_default().configurations;
     if use_last && !read.is_empty() && random.one_in(3) {
         return read.into_iter().map(|c| read_fields(last, c)).collect();
     }

@@ -1,6 +1,7 @@
-//! Key lists: good ones and nearly right ones.
+//! Key lists: good ones and nearly right ones, with skipped configurations in some of them.
 
 use crate::algorithms::nenc;
+use crate::key_list::MOST_CONFIGURATIONS;
 use crate::list_writer::{encode, Fields};
 use crate::random::Random;
 
@@ -111,54 +112,190 @@ pub fn encode_all(configurations: &[Fields]) -> Vec<u8> {
     configurations.iter().flat_map(encode).collect()
 }
 
+/// What is skipped of a good list.
+#[derive(Clone, Copy, PartialEq, Eq)]
+pub enum Skip {
+    None,
+    Some,
+    All,
+}
+
 /// A good list for a setup.
-pub fn good(random: &mut Random) -> Vec<u8> {
+pub fn good(random: &mut Random, skip: Skip) -> Vec<u8> {
     let count = setup_count(random);
-    encode_all(&configurations(random, count))
+    list(random, count, skip)
 }
 
 /// A good list for the client's calls.
 pub fn small(random: &mut Random) -> Vec<u8> {
     let count = small_count(random);
-    encode_all(&configurations(random, count))
+    let skip = random.pick(&[Skip::None, Skip::None, Skip::Some, Skip::Some, Skip::All]);
+    list(random, count, skip)
+}
+
+/// A good list: so many configurations, and with some skipped those on top.
+fn list(random: &mut Random, count: usize, skip: Skip) -> Vec<u8> {
+    match skip {
+        Skip::None => encode_all(&configurations(random, count)),
+        Skip::Some => {
+            // Room for one at least.
+            let count = count.min(MOST_CONFIGURATIONS - 1);
+            let all = configurations(random, count);
+            with_skipped(random, all.iter().map(encode).collect(), &ids(&all))
+        }
+        Skip::All => {
+            // Two ids for all of them, so that they come again.
+            let ids = [random.byte(), random.byte()];
+            (0..count).flat_map(|_| skipped(random, &ids)).collect()
+        }
+    }
+}
+
+fn ids(configurations: &[Fields]) -> Vec<u8> {
+    configurations.iter().map(|fields| fields.id).collect()
+}
+
+/// Skipped configurations put in at any places between those given, sixteen in all at most.
+fn with_skipped(random: &mut Random, mut all: Vec<Vec<u8>>, ids: &[u8]) -> Vec<u8> {
+    let room = MOST_CONFIGURATIONS.saturating_sub(all.len());
+    let count = match random.below(8) {
+        0 => room,
+        1 => random.between(1, 16).min(room),
+        _ => random.between(1, 3).min(room),
+    };
+    for _ in 0..count {
+        let place = random.below(all.len() + 1);
+        all.insert(place, skipped(random, ids));
+    }
+    all.concat()
+}
+
+/// A configuration of an unknown KEM: its key id is often that of another one, its inside is any.
+fn skipped(random: &mut Random, ids: &[u8]) -> Vec<u8> {
+    let id = if random.one_in(2) {
+        random.pick(ids)
+    } else {
+        random.byte()
+    };
+    let behind_kem = match random.below(10) {
+        // 3 bytes in all, or a few more
+        0..=3 => Vec::new(),
+        4 => random.bytes(1),
+        5 => random.bytes(2),
+        // as if its KEM were known
+        6 | 7 => encode(&configuration(random, id))[5..].to_vec(),
+        // a configuration that a reader finds where it does not step over all
+        8 => encode(&configuration(random, id)),
+        _ => {
+            let length = random.below(120);
+            random.bytes(length)
+        }
+    };
+    of_unknown_kem(random, id, &behind_kem)
+}
+
+/// Key id, unknown KEM and what stands behind it, with their length.
+fn of_unknown_kem(random: &mut Random, id: u8, behind_kem: &[u8]) -> Vec<u8> {
+    let mut bytes = ((3 + behind_kem.len()) as u16).to_be_bytes().to_vec();
+    bytes.push(id);
+    bytes.extend(unknown_kem(random).to_be_bytes());
+    bytes.extend_from_slice(behind_kem);
+    bytes
+}
+
+/// A skipped configuration of the largest length and one to be read, in either order; maybe cut.
+pub fn long(random: &mut Random) -> Vec<u8> {
+    let longest = of_unknown_kem(random, 7, &[0x77; 65_535 - 3]);
+    let other = encode(&configuration(random, 7));
+    let mut list = if random.one_in(2) {
+        [longest, other].concat()
+    } else {
+        [other, longest].concat()
+    };
+    if random.one_in(3) {
+        list.pop();
+    }
+    list
 }
 
 /// A list with one fault or two; now and then the faults leave it good.
 pub fn nearly_right(random: &mut Random) -> Vec<u8> {
-    let count = small_count(random);
-    match random.below(12) {
+    match random.below(16) {
         0 => Vec::new(),
-        1 => too_many(random),
-        2 | 3 => {
-            let list = encode_all(&configurations(random, count));
+        1 | 2 => too_many(random),
+        3 | 4 => {
+            let list = small(random);
             truncated(random, list)
         }
-        4 => {
-            let mut list = encode_all(&configurations(random, count));
+        5 => {
+            let mut list = small(random);
             let extra = random.between(1, 4);
             list.extend(random.bytes(extra));
             list
         }
-        _ => one_spoilt(random, count),
+        6 | 7 => cut(random),
+        _ => {
+            let count = small_count(random);
+            one_spoilt(random, count)
+        }
     }
 }
 
-/// Seventeen configurations, the last one good or not, or sixteen and a byte.
-fn too_many(random: &mut Random) -> Vec<u8> {
-    let mut all = configurations(random, 17);
+/// A list whose last configuration has an unknown KEM and does not lie whole in the list: it is
+/// cut, most of the time behind its KEM, or its length runs past the end.
+fn cut(random: &mut Random) -> Vec<u8> {
+    let mut list = if random.one_in(2) {
+        small(random)
+    } else {
+        Vec::new()
+    };
+    let id = random.byte();
+    let mut last = skipped(random, &[id]);
     match random.below(4) {
-        0 => all[16].id = all[3].id,
-        1 => all[16].kem = 0x0099,
-        2 => {
-            all.pop();
+        0 => {
+            last.pop();
         }
+        1 => last.truncate(random.between(1, last.len() - 1)),
+        2 => last[0] = random.pick(&[0x80, 0xff]),
+        _ => last = length_off(random, last, 0),
+    }
+    list.extend(last);
+    list
+}
+
+/// Seventeen configurations, some of them skipped or the last one bad, or sixteen and a byte.
+fn too_many(random: &mut Random) -> Vec<u8> {
+    let configurations = configurations(random, 17);
+    let ids = ids(&configurations);
+    let mut all: Vec<Vec<u8>> = configurations.iter().map(encode).collect();
+    let skipped_places = match random.below(8) {
+        0 | 1 => 16..17,
+        2 => 0..16,
+        3 | 4 => 0..17,
+        5 => {
+            let first = random.below(17);
+            first..random.between(first, 17)
+        }
+        _ => 0..0,
+    };
+    for place in skipped_places {
+        all[place] = skipped(random, &ids);
+    }
+    match random.below(12) {
+        0 => all[16][2] = ids[3],
+        1 => all[16].truncate(1),
+        2 => all[16] = short(random),
         _ => {}
     }
-    let mut list = encode_all(&all);
-    if all.len() == 16 {
-        list.push(random.byte());
-    }
-    list
+    all.concat()
+}
+
+/// A configuration of less than 3 bytes.
+fn short(random: &mut Random) -> Vec<u8> {
+    let length = random.pick(&[0, 1, 2, 2]);
+    let mut bytes = vec![0, length];
+    bytes.extend(random.bytes(usize::from(length)));
+    bytes
 }
 
 fn truncated(random: &mut Random, mut list: Vec<u8>) -> Vec<u8> {
@@ -174,6 +311,7 @@ fn truncated(random: &mut Random, mut list: Vec<u8>) -> Vec<u8> {
 /// One configuration of the list breaks a rule, and maybe a later one another.
 fn one_spoilt(random: &mut Random, count: usize) -> Vec<u8> {
     let mut all = configurations(random, count);
+    let ids = ids(&all);
     let place = random.below(count);
     if random.one_in(6) {
         // An id twice, which may be the whole configuration twice.
@@ -182,31 +320,40 @@ fn one_spoilt(random: &mut Random, count: usize) -> Vec<u8> {
             twin = configuration(random, twin.id);
         }
         all.push(twin);
-        return encode_all(&all);
+        let all = all.iter().map(encode).collect();
+        return maybe_with_skipped(random, all, &ids);
     }
     let mut list = Vec::new();
     for (at, fields) in all.into_iter().enumerate() {
-        if at == place || (at > place && random.one_in(4)) {
-            list.extend(spoilt(random, fields));
+        list.push(if at == place || (at > place && random.one_in(4)) {
+            spoilt(random, fields)
         } else {
-            list.extend(encode(&fields));
-        }
+            encode(&fields)
+        });
     }
-    list
+    maybe_with_skipped(random, list, &ids)
+}
+
+fn maybe_with_skipped(random: &mut Random, all: Vec<Vec<u8>>, ids: &[u8]) -> Vec<u8> {
+    if random.one_in(2) {
+        with_skipped(random, all, ids)
+    } else {
+        all.concat()
+    }
 }
 
 /// A configuration that breaks a rule of the layout.
 fn spoilt(random: &mut Random, mut fields: Fields) -> Vec<u8> {
     let npk = fields.public_key.len();
-    match random.below(9) {
+    match random.below(11) {
         0 => return length_off(random, encode(&fields), 0),
         1 => return length_off(random, encode(&fields), 5 + npk),
         2 => return uneven(random, fields),
         3 => fields.pairs.clear(),
         4 => fields.pairs.resize(random.pick(&[34, 36, 64]), 1),
         5 => fields.pairs.push(1),
-        6 => fields.kem = unknown_kem(random),
-        7 => fields.kem = random.pick(&KEMS),
+        6..=8 => return short(random),
+        9 => fields.kem = random.pick(&KEMS),
         _ => fields.public_key.resize(random.one_off(npk), 0),
     }
     encode(&fields)

@@ -1,4 +1,4 @@
-//! Call lists from a seed. The gateway runs along, so that most lists go deep.
+//! Call lists from a seed. The gateway runs along, so that most calls stand in lists that go deep.
 
 mod bad_lines;
 mod client_calls;
@@ -15,6 +15,8 @@ use crate::moved::is_gateway_call;
 use crate::pending::Engine;
 use crate::perform::perform;
 use crate::random::Random;
+use crate::skipped::skipped;
+use key_lists::Skip;
 use std::io::{self, Write};
 
 /// What a list is out for.
@@ -22,6 +24,8 @@ use std::io::{self, Write};
 enum Aim {
     /// The setup is refused.
     Refused,
+    /// A gateway without keys and with any cap: all configurations are skipped.
+    Skipped,
     /// A small cap, so that keys are worn out.
     Worn,
     Mixed,
@@ -33,11 +37,12 @@ enum Aim {
 }
 
 fn aim(random: &mut Random) -> Aim {
-    match random.below(20) {
-        0..=4 => Aim::Refused,
-        5..=10 => Aim::Worn,
-        11..=13 => Aim::Full,
-        14 => Aim::Apart(random.pick(&[1, 4, 20, 43, 64, 64, 90])),
+    match random.below(30) {
+        0..=13 => Aim::Refused,
+        14..=17 => Aim::Skipped,
+        18..=22 => Aim::Worn,
+        23 | 24 => Aim::Full,
+        25 => Aim::Apart(random.pick(&[1, 4, 20, 43, 64, 64, 90])),
         _ => Aim::Mixed,
     }
 }
@@ -78,7 +83,8 @@ impl<W: Write> Generator<'_, W> {
     fn list(&mut self) -> io::Result<()> {
         let aim = aim(&mut self.random);
         let calls = match aim {
-            Aim::Refused => self.random.between(20, 60),
+            Aim::Refused => self.random.between(1, 30),
+            Aim::Skipped => self.random.between(10, 60),
             Aim::Worn => self.random.between(20, 150),
             Aim::Mixed => self.random.between(100, 800),
             Aim::Full => self.random.between(200, 800),
@@ -169,11 +175,11 @@ impl<W: Write> Generator<'_, W> {
         let gateway = &self.gateway;
         let key_list = self.key_list.as_slice();
         match random.below(100) {
-            0..=27 => requests::admit(random, gateway),
+            0..=27 => requests::admit(random, gateway, &skipped(key_list)),
             28..=44 => ticket_calls::open(random, gateway),
             45..=60 => ticket_calls::respond(random, gateway),
             61..=64 => ticket_calls::abandon(random, gateway),
-            65..=66 => ticket_calls::retire(random, gateway),
+            65..=66 => ticket_calls::retire(random, gateway, &skipped(key_list)),
             67..=70 => "report".to_string(),
             71..=74 => client_calls::check(random, key_list),
             75..=78 => client_calls::key(random, key_list),
@@ -199,10 +205,17 @@ fn setup(random: &mut Random, aim: Aim) -> String {
         random.pick(caps(aim))
     };
     // A bad cap and a bad list together are refused for the list.
-    let list = if refused && (!bad_cap || random.one_in(8)) {
+    let list = if refused && random.one_in(25) {
+        key_lists::long(random)
+    } else if refused && (!bad_cap || random.one_in(8)) {
         key_lists::nearly_right(random)
     } else {
-        key_lists::good(random)
+        let skip = match aim {
+            Aim::Refused => random.pick(&[Skip::None, Skip::Some, Skip::All]),
+            Aim::Skipped => Skip::All,
+            _ => random.pick(&[Skip::None, Skip::None, Skip::Some]),
+        };
+        key_lists::good(random, skip)
     };
     format!("setup {cap} {}", crate::answer::hex(&list))
 }
@@ -210,6 +223,7 @@ fn setup(random: &mut Random, aim: Aim) -> String {
 fn caps(aim: Aim) -> &'static [u64] {
     match aim {
         Aim::Refused => &[1, 2, LARGEST_CAP],
+        Aim::Skipped => &[1, 2, 3, 1_000, LARGEST_CAP - 1, LARGEST_CAP],
         Aim::Worn => &[1, 1, 2, 2, 3, 3, 5],
         Aim::Mixed => &[3, 10, 30, 100, 1_000, LARGEST_CAP - 1, LARGEST_CAP],
         Aim::Full => &[128, 129, 140, 255, 256, 1_000, 65_536, LARGEST_CAP],
@@ -220,7 +234,11 @@ fn caps(aim: Aim) -> &'static [u64] {
 #[cfg(test)]
 mod tests {
     use super::*;
+    use crate::algorithms::nenc;
+    use crate::key_list::{inside_at, kem_of, number_at, read_list, LENGTH_SIZE};
     use crate::replay::Replay;
+    use crate::table::first_bad;
+    use std::collections::HashMap;
 
     fn lists(seed: u64, calls: u64) -> Vec<u8> {
         let mut output = Vec::new();
@@ -313,6 +331,107 @@ mod tests {
         });
         let reached = [admitted, found, not_found, full, full_apart];
         assert!(reached.iter().all(|times| *times > 1_000), "{reached:?}");
+    }
+
+    const WHOLE: [&str; 8] = [
+        "first",
+        "between",
+        "last",
+        "of 3 bytes",
+        "same id as one before",
+        "same id as one behind",
+        "in sixteen",
+        "all",
+    ];
+    const SELDOM: [&str; 6] = [
+        "of 65,535 bytes",
+        "of 2 bytes",
+        "of 1 byte",
+        "of 0 bytes",
+        "cut",
+        "seventeenth",
+    ];
+
+    /// What there is of unknown KEMs in a list.
+    fn unknown_kems(list: &[u8]) -> Vec<&'static str> {
+        let is_unknown = |kem: Option<u16>| kem.map_or(false, |kem| nenc(kem).is_none());
+        let mut insides = Vec::new();
+        let mut start = 0;
+        while let Some(inside) = inside_at(list, start) {
+            insides.push(inside);
+            start += LENGTH_SIZE + inside.len();
+        }
+        let mut found = Vec::new();
+        let mut find = |what: &'static str, is_there: bool| {
+            if is_there {
+                found.push(what);
+            }
+        };
+        if read_list(list).is_err() {
+            let place = first_bad(list);
+            let length = inside_at(list, place).map(<[u8]>::len);
+            find("of 2 bytes", length == Some(2));
+            find("of 1 byte", length == Some(1));
+            find("of 0 bytes", length == Some(0));
+            let unknown = is_unknown(number_at(list, place + LENGTH_SIZE + 1));
+            find("cut", unknown && length.is_none());
+            let before = read_list(&list[..place]).unwrap_or_default();
+            find("seventeenth", unknown && before.count() == 16);
+            return found;
+        }
+        let last = insides.len() - 1;
+        for (place, inside) in insides.iter().enumerate() {
+            if !is_unknown(kem_of(inside)) {
+                continue;
+            }
+            let is_twin = |other: &&[u8]| !is_unknown(kem_of(other)) && other[0] == inside[0];
+            find("first", place == 0 && last > 0);
+            find("between", place > 0 && place < last);
+            find("last", place == last && last > 0);
+            find("of 3 bytes", inside.len() == 3);
+            find("of 65,535 bytes", inside.len() == 65_535);
+            find(
+                "same id as one before",
+                insides[..place].iter().any(is_twin),
+            );
+            find(
+                "same id as one behind",
+                insides[place..].iter().any(is_twin),
+            );
+            find("in sixteen", last == 15);
+            find(
+                "all",
+                insides.iter().all(|inside| is_unknown(kem_of(inside))),
+            );
+        }
+        found
+    }
+
+    #[test]
+    fn unknown_kems_are_reached_by_every_call_with_a_list() {
+        let mut reached: HashMap<(&str, &str), usize> = HashMap::new();
+        run(1, 200_000, |_, line| {
+            let (call, list) = match line {
+                Line::Call(Call::Setup { list, .. }) => ("setup", list),
+                Line::Call(Call::Check { list }) => ("check", list),
+                Line::Call(Call::Key { list, .. }) => ("key", list),
+                Line::Call(Call::Choose { list, .. }) => ("choose", list),
+                _ => return,
+            };
+            let mut found = unknown_kems(list);
+            found.sort_unstable();
+            found.dedup();
+            for what in found {
+                *reached.entry((call, what)).or_default() += 1;
+            }
+        });
+        for call in ["setup", "check", "key", "choose"] {
+            let times = |what: &'static str| reached.get(&(call, what)).copied().unwrap_or(0);
+            let whole = WHOLE.map(times);
+            assert!(whole.iter().all(|times| *times > 50), "{call} {whole:?}");
+            let seldom = SELDOM.map(times);
+            assert!(seldom.iter().all(|times| *times > 3), "{call} {seldom:?}");
+        }
     }
 
     #[test]

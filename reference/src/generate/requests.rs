@@ -5,6 +5,7 @@ use crate::algorithms::{shortest_request, Pair, HEAD_LENGTH};
 use crate::answer::hex;
 use crate::gateway::{Gateway, Key};
 use crate::random::Random;
+use crate::skipped::Skipped;
 
 /// A request in the making.
 struct Draft {
@@ -20,9 +21,11 @@ pub fn right_admit(random: &mut Random, gateway: &Gateway) -> String {
     line(random, &draft, 29)
 }
 
-pub fn admit(random: &mut Random, gateway: &Gateway) -> String {
+pub fn admit(random: &mut Random, gateway: &Gateway, skipped: &[Skipped]) -> String {
     let mut draft = right_draft(random, gateway);
-    if random.one_in(2) {
+    if !skipped.is_empty() && random.one_in(12) {
+        to_skipped(random, skipped, &mut draft);
+    } else if random.one_in(2) {
         spoil(random, gateway, &mut draft);
         while random.one_in(4) {
             spoil(random, gateway, &mut draft);
@@ -121,6 +124,18 @@ fn spoil(random: &mut Random, gateway: &Gateway, draft: &mut Draft) {
             draft.length = random.pick(&[6, 7, 54]);
         }
         _ => draft.id = any_key_id(random, gateway),
+    }
+}
+
+/// A request that names the key id of a skipped configuration, its KEM, or both.
+fn to_skipped(random: &mut Random, skipped: &[Skipped], draft: &mut Draft) {
+    let Skipped { id, kem } = random.pick(skipped);
+    let names = random.below(3);
+    if names != 0 {
+        draft.id = id;
+    }
+    if names != 1 {
+        draft.kem = kem;
     }
 }
 

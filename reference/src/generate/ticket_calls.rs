@@ -5,6 +5,7 @@ use crate::algorithms::{nenc, response_nonce_length};
 use crate::answer::hex;
 use crate::gateway::{Exchange, Gateway, State};
 use crate::random::Random;
+use crate::skipped::Skipped;
 
 pub fn open(random: &mut Random, gateway: &Gateway) -> String {
     let ticket = ticket(random, gateway, |exchange| exchange.state == State::Asked);
@@ -87,7 +88,7 @@ pub fn close(random: &mut Random, ticket: u64) -> String {
 }
 
 /// Live keys are retired seldom, the last one most seldom, so that lists go deep.
-pub fn retire(random: &mut Random, gateway: &Gateway) -> String {
+pub fn retire(random: &mut Random, gateway: &Gateway, skipped: &[Skipped]) -> String {
     let ids = |retired: bool| -> Vec<u8> {
         let keys = gateway.keys.iter().filter(|key| key.retired == retired);
         keys.map(|key| key.id).collect()
@@ -96,6 +97,8 @@ pub fn retire(random: &mut Random, gateway: &Gateway) -> String {
     let id = match random.below(8) {
         0 if live.len() > 1 || (live.len() == 1 && random.one_in(6)) => random.pick(&live),
         1..=3 if !retired.is_empty() => random.pick(&retired),
+        // Now and then a live key has the same id.
+        4 | 5 if !skipped.is_empty() => random.pick(skipped).id,
         _ => random.byte(),
     };
     format!("retire {id}")

@@ -5,10 +5,11 @@ package sealwax
 */
 import "C"
 
-// Check says how many configurations a key list has, or why it is bad. A bad list is discarded whole (RFC 9458, 3.2).
-func Check(list []byte) (configurations int, err error) {
+// Check says how many configurations of a key list were read and how many were skipped, since their KEM is unknown, or why the list is bad.
+// A bad list is discarded whole (RFC 9458, 3.2).
+func Check(list []byte) (configurations, skipped int, err error) {
 	result := C.sealwax_check((*C.uint8_t)(first(list)), C.size_t(len(list)))
-	return int(result.configurations), refused(result.outcome)
+	return int(result.configurations), int(result.skipped), refused(result.outcome)
 }
 
 // PublicKey hands back a key's public key as a part of its list.

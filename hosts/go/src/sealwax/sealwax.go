@@ -33,10 +33,11 @@ type Pair struct {
 	AEAD AEAD
 }
 
-// Sizes in bytes, of which a host needs the first two to stop reading.
+// Sizes in bytes, of which a host needs the first three to stop reading; the last is of a list that is written.
 const (
 	LongestRequest  = C.SEALWAX_LONGEST_REQUEST
 	LongestResponse = C.SEALWAX_LONGEST_RESPONSE
+	LongestListRead = C.SEALWAX_LONGEST_LIST_READ
 	LongestList     = C.SEALWAX_LONGEST_LIST
 )
 

@@ -58,8 +58,8 @@ func setup(t *testing.T, list []byte, keyCap uint64) *Gateway {
 
 func TestKeyList(t *testing.T) {
 	list := edgeList(t)
-	if n, err := Check(list); n != 1 || err != nil {
-		t.Fatal(n, err)
+	if n, skipped, err := Check(list); n != 1 || skipped != 0 || err != nil {
+		t.Fatal(n, skipped, err)
 	}
 	key, err := PublicKey(list, 7)
 	if err != nil || !bytes.Equal(key, list[5:37]) {
@@ -67,7 +67,7 @@ func TestKeyList(t *testing.T) {
 	}
 	_, err = PublicKey(list, 8)
 	wants(t, err, Refusal{Number: NoSuchKey})
-	_, err = Check(append(list, list...))
+	_, _, err = Check(append(list, list...))
 	wants(t, err, Refusal{Number: BadKeyList, Place: 43})
 	_, err = Setup(append(list, list...), 1)
 	wants(t, err, Refusal{Number: BadKeyList, Place: 43})
@@ -76,7 +76,7 @@ func TestKeyList(t *testing.T) {
 		wants(t, err, Refusal{Number: CapOutOfRange})
 	}
 	for _, empty := range [][]byte{nil, {}} {
-		_, err = Check(empty)
+		_, _, err = Check(empty)
 		wants(t, err, Refusal{Number: BadKeyList})
 		_, err = Setup(empty, 1)
 		wants(t, err, Refusal{Number: BadKeyList})
@@ -107,9 +107,43 @@ func TestWriteList(t *testing.T) {
 	if err != nil || len(list) != LongestList {
 		t.Fatal(len(list), err)
 	}
-	if n, err := Check(list); n != MostKeys || err != nil {
-		t.Fatal(n, err)
+	if n, skipped, err := Check(list); n != MostKeys || skipped != 0 || err != nil {
+		t.Fatal(n, skipped, err)
 	}
+}
+
+// A configuration with an unknown KEM is skipped, here one of 3 bytes with the key id of the one that is read.
+func TestSkipped(t *testing.T) {
+	unknown := unhex(t, "0003 07 0030")
+	list := append(unhex(t, "0003 07 0030"), edgeList(t)...)
+	if n, skipped, err := Check(list); n != 1 || skipped != 1 || err != nil {
+		t.Fatal(n, skipped, err)
+	}
+	key, err := PublicKey(list, 7)
+	if err != nil || !bytes.Equal(key, list[10:42]) {
+		t.Fatal(key, err)
+	}
+	choice, err := Choose(list, []KEM{0x0030, 0x0020}, []Pair{{1, 3}})
+	if err != nil || choice.KEM != 0x0020 || !bytes.Equal(choice.PublicKey, list[10:42]) {
+		t.Fatal(choice, err)
+	}
+	if report := setup(t, list, 1).Report(); len(report.Keys) != 1 {
+		t.Fatal(report)
+	}
+	// Where all are skipped, the list is good and there is no key.
+	if n, skipped, err := Check(unknown); n != 0 || skipped != 1 || err != nil {
+		t.Fatal(n, skipped, err)
+	}
+	if report := setup(t, unknown, 1).Report(); len(report.Keys) != 0 {
+		t.Fatal(report)
+	}
+	_, err = PublicKey(unknown, 7)
+	wants(t, err, Refusal{Number: NoSuchKey})
+	_, err = Choose(unknown, []KEM{0x0030, 0x0020}, []Pair{{1, 3}})
+	wants(t, err, Refusal{Number: NoUsableConfiguration})
+	// Below 3 bytes it is bad.
+	_, _, err = Check(unhex(t, "0002 07 00"))
+	wants(t, err, Refusal{Number: BadKeyList})
 }
 
 // TestEdges goes through 01's edges.

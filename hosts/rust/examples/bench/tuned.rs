@@ -197,7 +197,7 @@ fn asked(request: &Request) -> Exchange {
 impl Keeper for Gateway {
     fn setup(cap: u64, list: &[u8]) -> (Gateway, Result<usize, Refusal>) {
         let read = read_list(list).and_then(|read| match cap {
-            1..=LARGEST_CAP => Ok(read),
+            1..=LARGEST_CAP => Ok(read.configurations),
             _ => Err(refusal(17)),
         });
         match read {

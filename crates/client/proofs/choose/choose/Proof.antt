@@ -11,7 +11,7 @@ use Rattle.client.proofs.choose.choose.Tie as tie
 
 -- the list that check calls good
 is-good : (c : tie.After-enum-told) → IsGood (c .before .before .before .before .before .before .args .list .now)
-is-good c = checked-good _ (c .enum-told .given .0 .0) (sym (c .before .before .check .ensures) ∙ c .enum-told .given .1)
+is-good c = checked-good _ _ _ _ (sym (c .before .before .check .ensures) ∙ c .enum-told .given .1)
 
 returns : tie.Need-returns
 returns c = rw (is-good (c .before .before) .1, ne-eqb _ _ (c .before .if1 .taken)) (c .refused .ensures)
@@ -22,7 +22,7 @@ returns-2 c = search needs
 returns-3 : tie.Need-returns-3
 returns-3 c =
     let list = c .before .before .before .before .before .before .before .args .list .now in
-    rw (checked-bad (parse list) _ (sym (c .before .before .before .check .ensures) ∙ c .before .refusal .given .1))
+    rw (checked-bad (parse list) _ _ (sym (c .before .before .before .check .ensures) ∙ c .before .refusal .given .1))
 
 pub choose-spec : {M : Type 1} → statement M
 choose-spec = tie.close (tie.spec (λ c κs. search needs) (λ c. search needs) (λ c κs. search needs) returns

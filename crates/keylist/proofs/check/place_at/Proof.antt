@@ -10,9 +10,16 @@ returns c = simp (le-ltb _ _ (c .if1 .taken))
 
 returns-2 : tie.Need-returns-2
 returns-2 c =
-    let read = c .before .before in
-    rw (lt-ltb _ _ (read .before .before .if1 .left), read .byte-at .ensures, c .before .key-length .ensures .0, read .before .word-at .ensures, c .next-start .ensures)
+    let read = c .before .before .before in
+    rw (
+      lt-ltb _ _ (read .before .before .if1 .left),
+      read .byte-at .ensures,
+      c .before .before .key-length .ensures .0,
+      read .before .word-at .ensures,
+      c .first-read .ensures,
+      c .before .next-start .ensures,
+    )
 
 pub place-at-spec : {M : Type 1} → statement M
 place-at-spec = tie.close (tie.spec returns (λ c. search needs) (λ c κs. search needs) (λ c. search needs) (λ c κs. search needs)
-    (λ c. search needs) (λ c. search needs) (λ c κs. search needs) (λ c. search needs) (λ c κs. search needs) returns-2)
+    (λ c. search needs) (λ c. search needs) (λ c κs. search needs) (λ c. search needs) (λ c κs. search needs) (λ c κs. search needs) returns-2)

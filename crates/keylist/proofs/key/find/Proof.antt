@@ -9,12 +9,12 @@ use Rattle.keylist.proofs.key.find.Tie as tie
 
 find-in-good-requires : tie.Need-find-in-good-requires
 find-in-good-requires c κs =
-    checked-good _ (c .enum-told .given .0 .0) (sym (c .before .before .check .ensures) ∙ c .enum-told .given .1)
+    checked-good _ _ _ _ (sym (c .before .before .check .ensures) ∙ c .enum-told .given .1)
 
 returns-2 : tie.Need-returns-2
 returns-2 c =
     let list = c .before .before .before .before .before .args .list .now in
-    rw (checked-bad (parse list) _ (sym (c .before .before .before .check .ensures) ∙ c .before .refusal .given .1))
+    rw (checked-bad (parse list) _ _ (sym (c .before .before .before .check .ensures) ∙ c .before .refusal .given .1))
 
 pub find-spec : {M : Type 1} → statement M
 find-spec = tie.close (tie.spec (λ c κs. search needs) (λ c. search needs) find-in-good-requires (λ c. search needs)

@@ -10,7 +10,7 @@ use Rattle.keys.proofs.Keys.read.Tie as tie
 
 read-good-requires : tie.Need-read-good-requires
 read-good-requires c κs =
-    checked-good _ (c .before .checked .given .0 .0) (sym (c .before .before .before .check .ensures) ∙ c .before .checked .given .1)
+    checked-good _ _ _ _ (sym (c .before .before .before .check .ensures) ∙ c .before .checked .given .1)
 
 returns : tie.Need-returns
 returns c =
@@ -22,7 +22,7 @@ unfolding keysFrom
 returns-2 c =
     let bad = c .before .before in
     let list = bad .before .before .before .before .args .list .now in
-    rw (c .none .ensures, checked-bad (parse list) _ (sym (bad .before .before .check .ensures) ∙ bad .checked2 .given .1))
+    rw (c .none .ensures, checked-bad (parse list) _ _ (sym (bad .before .before .check .ensures) ∙ bad .checked2 .given .1))
 
 pub read-spec : {M : Type 1} → statement M
 read-spec = tie.close (tie.spec (λ c κs. search needs) (λ c. search needs) read-good-requires (λ c. search needs) (λ c κs. search needs)

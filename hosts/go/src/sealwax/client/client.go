@@ -9,6 +9,7 @@ import (
 	"errors"
 	"fmt"
 	"io"
+	"log"
 	"mime"
 	"net/http"
 	"sync"
@@ -28,6 +29,8 @@ type Client struct {
 	// KEMs and Pairs are what the client is willing to use.
 	KEMs  []sealwax.KEM
 	Pairs []sealwax.Pair
+	// Log gets a line where a list that was fetched has configurations with unknown KEMs, which are skipped; nil for none.
+	Log *log.Logger
 
 	lock sync.Mutex
 	list []byte
@@ -44,6 +47,7 @@ func New(keys, relay string) *Client {
 		},
 		KEMs:  ohttp.KEMs,
 		Pairs: ohttp.Pairs,
+		Log:   log.Default(),
 	}
 }
 
@@ -104,15 +108,19 @@ func (c *Client) keyList(ctx context.Context, outdated []byte) ([]byte, error) {
 		return nil, err
 	}
 	request.Header.Set("Accept", ohttp.KeysType)
-	response, content, err := c.do(request, sealwax.LongestList)
+	response, content, err := c.do(request, sealwax.LongestListRead)
 	if err != nil {
 		return nil, err
 	}
 	if response.StatusCode != http.StatusOK || mediaType(response) != ohttp.KeysType {
 		return nil, fmt.Errorf("no key list: %s", response.Status)
 	}
-	if _, err := sealwax.Check(content); err != nil {
+	configurations, skipped, err := sealwax.Check(content)
+	if err != nil {
 		return nil, err
+	}
+	if skipped > 0 && c.Log != nil {
+		c.Log.Printf("key list: %d of %d configurations skipped, with a KEM that is unknown here", skipped, configurations+skipped)
 	}
 	c.list = content
 	return content, nil

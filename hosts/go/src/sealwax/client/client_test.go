@@ -1,6 +1,7 @@
 package client
 
 import (
+	"bytes"
 	"context"
 	"errors"
 	"fmt"
@@ -224,29 +225,89 @@ func sealed(length int) http.HandlerFunc {
 	}
 }
 
+// around changes the key list that a handler serves.
+func around(change func([]byte) []byte) func(http.Handler) http.Handler {
+	return func(next http.Handler) http.Handler {
+		return http.HandlerFunc(func(w http.ResponseWriter, r *http.Request) {
+			if r.Method == http.MethodPost {
+				next.ServeHTTP(w, r)
+				return
+			}
+			recorder := httptest.NewRecorder()
+			next.ServeHTTP(recorder, r)
+			w.Header().Set("Content-Type", recorder.Header().Get("Content-Type"))
+			_, _ = w.Write(change(recorder.Body.Bytes()))
+		})
+	}
+}
+
 // A list with a fault is discarded whole, however much of it is good, and nothing is sent.
 func TestBadList(t *testing.T) {
 	for name, damage := range map[string]func([]byte) []byte{
-		"empty":    func([]byte) []byte { return nil },
-		"cut":      func(list []byte) []byte { return list[:len(list)-1] },
-		"doubled":  func(list []byte) []byte { return append(list, list...) },
-		"too long": func(list []byte) []byte { return append(list, make([]byte, 1<<20)...) },
+		"empty":   func([]byte) []byte { return nil },
+		"cut":     func(list []byte) []byte { return list[:len(list)-1] },
+		"doubled": func(list []byte) []byte { return append(list, list...) },
+		"short":   func(list []byte) []byte { return append(list, 0, 2, 9, 0) },
+		"too long": func(list []byte) []byte {
+			for len(list) <= sealwax.LongestListRead {
+				list = append(list, unknown(65535-3)...)
+			}
+			return list
+		},
 	} {
 		t.Run(name, func(t *testing.T) {
 			var count counter
-			_, c := serve(t, func(next http.Handler) http.Handler {
-				return count.around(http.HandlerFunc(func(w http.ResponseWriter, r *http.Request) {
-					recorder := httptest.NewRecorder()
-					next.ServeHTTP(recorder, r)
-					w.Header().Set("Content-Type", recorder.Header().Get("Content-Type"))
-					_, _ = w.Write(damage(recorder.Body.Bytes()))
-				}))
-			})
+			_, c := serve(t, func(next http.Handler) http.Handler { return count.around(around(damage)(next)) })
 			if _, err := c.Send(context.Background(), nil); !sealwax.IsRefusal(err, sealwax.BadKeyList) {
 				t.Errorf("%v", err)
 			}
 			count.want(t, 1, 0)
 		})
+	}
+}
+
+// unknown is a configuration with a KEM that is unknown here, of the key id of another one and with so many bytes behind its KEM.
+func unknown(length int) []byte {
+	return append([]byte{byte((3 + length) >> 8), byte(3 + length), 7, 0x00, 0x30}, make([]byte, length)...)
+}
+
+// A configuration with an unknown KEM is skipped and logged, wherever it stands and however long it is; the reading goes through.
+func TestSkipped(t *testing.T) {
+	for name, gain := range map[string]func([]byte) []byte{
+		"in front": func(list []byte) []byte { return append(unknown(0), list...) },
+		"behind":   func(list []byte) []byte { return append(list, unknown(1216+2+4)...) },
+		"long":     func(list []byte) []byte { return append(unknown(65535-3), list...) },
+	} {
+		t.Run(name, func(t *testing.T) {
+			var lines bytes.Buffer
+			_, c := serve(t, around(gain))
+			c.Log = log.New(&lines, "", 0)
+			for i := 0; i < 2; i++ {
+				if exchange := send(t, c); exchange.Choice.KeyID != 7 || exchange.Again {
+					t.Errorf("%+v", exchange)
+				}
+			}
+			// The list was fetched once.
+			if lines.String() != "key list: 1 of 3 configurations skipped, with a KEM that is unknown here\n" {
+				t.Errorf("%q", lines.String())
+			}
+			c.Log = nil
+			c.list = nil
+			send(t, c)
+		})
+	}
+}
+
+// Where all are skipped, no configuration can be used; the log says why.
+func TestAllSkipped(t *testing.T) {
+	var lines bytes.Buffer
+	_, c := serve(t, around(func([]byte) []byte { return append(unknown(0), unknown(40)...) }))
+	c.Log = log.New(&lines, "", 0)
+	if _, err := c.Send(context.Background(), nil); !sealwax.IsRefusal(err, sealwax.NoUsableConfiguration) {
+		t.Errorf("%v", err)
+	}
+	if lines.String() != "key list: 2 of 2 configurations skipped, with a KEM that is unknown here\n" {
+		t.Errorf("%q", lines.String())
 	}
 }
 

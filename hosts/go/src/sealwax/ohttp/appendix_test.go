@@ -64,7 +64,7 @@ func TestAppendixGateway(t *testing.T) {
 		t.Fatal(err)
 	}
 	list := appendixList()
-	if n, err := sealwax.Check(list); n != 1 || err != nil {
+	if n, skipped, err := sealwax.Check(list); n != 1 || skipped != 0 || err != nil {
 		t.Fatal(n, err)
 	}
 	public, err := sealwax.PublicKey(list, 1)

@@ -1,0 +1,104 @@
+-- 02, A1: skipping a configuration changes nothing else; a list in which all are skipped; and requests that name an unknown KEM.
+use Prim.Native.Nat.{ℕ, _+_, _%_, _≤_, _<_}
+use mathlib.Core.Path.{_≡_}
+use mathlib.Core.Bool.{Bool, true, false}
+use mathlib.Core.List.{List, [], _∷_, _++_, map, flatten}
+use lib.Dec.{ltb}
+use lib.ListN.{length, take, drop}
+use Rattle.wire.specs.Tests.{pick}
+use Rattle.wire.specs.Search.{among}
+use Rattle.wire.specs.Refusals.{refused}
+use Rattle.wire.specs.Texts.{headLength, longestRequest}
+use Rattle.algorithms.specs.Sizes.{knownKem}
+use Rattle.keylist.specs.declared.Checked.{Checked}
+use Rattle.keylist.specs.declared.KeyPlace.{KeyPlace}
+use Rattle.keylist.specs.Layout.{Configuration, good, isSkipped, mostConfigurations, nextStart, parse}
+use Rattle.keylist.specs.Answers.{checked, keyPart, keyPlaceIn, skippedIn, starts}
+use Rattle.client.specs.declared.choose.Chosen.{Chosen}
+use Rattle.client.specs.Choose.{chooseFrom}
+use Rattle.request.specs.Request.{kemOf}
+use Rattle.gateway.specs.declared.Gateway.{Gateway}
+use Rattle.gateway.specs.declared.SetupAnswer.{SetupAnswer}
+use Rattle.gateway.specs.declared.table.Engine.{Engine}
+use Rattle.gateway.specs.Registry.{capHolds, setup, setupAnswer}
+use Rattle.gateway.specs.Gateway.{freshGateway, gatewayDoes}
+use Rattle.gateway.specs.View.{registryOf, pendingIn}
+use Rattle.gateway.specs.Calls.{admit, number}
+
+-- bytes that are one configuration, which is skipped
+abbrev pub OneSkipped : List ℕ → Type 0
+OneSkipped bytes = (isSkipped bytes 0 ≡ true) × (nextStart bytes 0 ≡ length bytes)
+
+-- a place between configurations: where one starts, or the list's end
+abbrev pub isBetween : ℕ → List ℕ → Bool
+isBetween place bytes = among (starts bytes ++ length bytes ∷ []) place
+
+-- the list with bytes put in at a place
+abbrev pub putIn : List ℕ → ℕ → List ℕ → List ℕ
+putIn extra place bytes = take place bytes ++ (extra ++ drop place bytes)
+
+-- a configuration, its offset moved by so many bytes where it is not in front of the place
+abbrev pub movedBehind : ℕ → ℕ → Configuration → Configuration
+movedBehind place size c =
+    record {
+      start = pick (ltb (c .start) place) (c .start) (c .start + size);
+      keyId = c .keyId;
+      kem = c .kem;
+      publicKey = c .publicKey;
+      pairs = c .pairs;
+    }
+
+-- what the key reader's checking entry and choose answer, places aside
+abbrev pub keyPlaceAside : KeyPlace → KeyPlace
+keyPlaceAside (KeyPlace.Found from to) = KeyPlace.Found 0 0
+keyPlaceAside (KeyPlace.Refused r) = KeyPlace.Refused r
+
+abbrev pub choiceAside : Chosen → Chosen
+choiceAside (Chosen.Usable x) =
+    Chosen.Usable (record { «key_id» = x .«key_id»; kem = x .kem; kdf = x .kdf; aead = x .aead; «key_start» = 0; «key_end» = 0 })
+choiceAside (Chosen.Refused r) = Chosen.Refused r
+
+-- a list that is read into these configurations, and the longer one with bytes put in: the configurations are the same, with their offsets
+-- moved, one more is skipped, and setup, key reader and choose answer the same
+pub record ReadAlike (bytes extra : List ℕ) (place : ℕ) (cs : List Configuration) : Type 0 where
+  pub configurations : parse (putIn extra place bytes) ≡ good (map (movedBehind place (length extra)) cs)
+  pub skipped : skippedIn (putIn extra place bytes) ≡ skippedIn bytes + 1
+  pub gateway : (cap : ℕ) → freshGateway (putIn extra place bytes) cap ≡ freshGateway bytes cap
+  pub answer : (cap : ℕ) → setupAnswer (setup (putIn extra place bytes) cap) ≡ setupAnswer (setup bytes cap)
+  pub publicKey : (id : ℕ)
+      → keyPart (putIn extra place bytes) (keyPlaceIn id (parse (putIn extra place bytes))) ≡ keyPart bytes (keyPlaceIn id (parse bytes))
+  pub keyPlace : (id : ℕ)
+      → keyPlaceAside (keyPlaceIn id (parse (putIn extra place bytes))) ≡ keyPlaceAside (keyPlaceIn id (parse bytes))
+  pub choice : (kems numbers : List ℕ)
+      → choiceAside (chooseFrom kems numbers (parse (putIn extra place bytes))) ≡ choiceAside (chooseFrom kems numbers (parse bytes))
+
+-- a skipped configuration put into a good list at any place between configurations, with at most sixteen in all
+abbrev pub SkippingChangesNothingElse : Type 0
+SkippingChangesNothingElse =
+    (bytes extra : List ℕ) (place : ℕ) (cs : List Configuration) → parse bytes ≡ good cs
+    → length (starts bytes) < mostConfigurations → isBetween place bytes ≡ true → OneSkipped extra → ReadAlike bytes extra place cs
+
+-- each is a configuration that is skipped
+abbrev pub EachSkipped : List (List ℕ) → Type 0
+EachSkipped [] = Unit
+EachSkipped (bytes ∷ rest) = OneSkipped bytes × EachSkipped rest
+
+-- "A list in which all are skipped sets up a gateway without keys", with the cap that was given; "choose answers 16", and the key reader 4
+pub record WithoutKeys (bytes : List ℕ) (skips : ℕ) : Type 0 where
+  pub check : checked bytes ≡ Checked.Good 0 skips
+  pub answer : (cap : ℕ) → capHolds cap ≡ true → setupAnswer (setup bytes cap) ≡ SetupAnswer.Ready 0
+  pub gateway : (cap : ℕ) → capHolds cap ≡ true
+      → (registryOf (freshGateway bytes cap) ≡ record { cap = cap; lastTicket = 0; keys = [] }) × (pendingIn (freshGateway bytes cap .table) ≡ [])
+  pub choice : (kems numbers : List ℕ) → length numbers % 2 ≡ 0 → chooseFrom kems numbers (parse bytes) ≡ Chosen.Refused (refused 16)
+  pub key : (id : ℕ) → keyPlaceIn id (parse bytes) ≡ KeyPlace.Refused (refused 4)
+
+-- one configuration or more, sixteen at most, one behind the other
+abbrev pub AllSkipped : Type 0
+AllSkipped =
+    (all : List (List ℕ)) → EachSkipped all → 0 < length all → length all ≤ mostConfigurations → WithoutKeys (flatten all) (length all)
+
+-- "Requests naming that KEM still get 3", whatever the gateway holds, where neither 2 nor 1 comes first
+abbrev pub UnknownKemRefused : Type 0
+UnknownKemRefused =
+    (engine : Engine) (g : Gateway) (request info : List ℕ) → knownKem (kemOf request) ≡ false
+    → headLength ≤ length request → length request ≤ longestRequest → number (gatewayDoes engine g (admit request info) .answer) ≡ 3
