@@ -58,25 +58,24 @@ choiceAside (Chosen.Usable x) =
     Chosen.Usable (record { «key_id» = x .«key_id»; kem = x .kem; kdf = x .kdf; aead = x .aead; «key_start» = 0; «key_end» = 0 })
 choiceAside (Chosen.Refused r) = Chosen.Refused r
 
--- a list that is read into these configurations, and the longer one with bytes put in: the configurations are the same, with their offsets
--- moved, one more is skipped, and setup, key reader and choose answer the same
-pub record ReadAlike (bytes extra : List ℕ) (place : ℕ) (cs : List Configuration) : Type 0 where
-  pub configurations : parse (putIn extra place bytes) ≡ good (map (movedBehind place (length extra)) cs)
-  pub skipped : skippedIn (putIn extra place bytes) ≡ skippedIn bytes + 1
-  pub gateway : (cap : ℕ) → freshGateway (putIn extra place bytes) cap ≡ freshGateway bytes cap
-  pub answer : (cap : ℕ) → setupAnswer (setup (putIn extra place bytes) cap) ≡ setupAnswer (setup bytes cap)
-  pub publicKey : (id : ℕ)
-      → keyPart (putIn extra place bytes) (keyPlaceIn id (parse (putIn extra place bytes))) ≡ keyPart bytes (keyPlaceIn id (parse bytes))
-  pub keyPlace : (id : ℕ)
-      → keyPlaceAside (keyPlaceIn id (parse (putIn extra place bytes))) ≡ keyPlaceAside (keyPlaceIn id (parse bytes))
+-- of a list that is read into these configurations, and of a longer one: the configurations are the same, with their offsets moved, one more
+-- is skipped, and setup, key reader and choose answer the same
+pub record ReadAlike (bytes longer : List ℕ) (place size : ℕ) (cs : List Configuration) : Type 0 where
+  pub configurations : parse longer ≡ good (map (movedBehind place size) cs)
+  pub skipped : skippedIn longer ≡ skippedIn bytes + 1
+  pub gateway : (cap : ℕ) → freshGateway longer cap ≡ freshGateway bytes cap
+  pub answer : (cap : ℕ) → setupAnswer (setup longer cap) ≡ setupAnswer (setup bytes cap)
+  pub publicKey : (id : ℕ) → keyPart longer (keyPlaceIn id (parse longer)) ≡ keyPart bytes (keyPlaceIn id (parse bytes))
+  pub keyPlace : (id : ℕ) → keyPlaceAside (keyPlaceIn id (parse longer)) ≡ keyPlaceAside (keyPlaceIn id (parse bytes))
   pub choice : (kems numbers : List ℕ)
-      → choiceAside (chooseFrom kems numbers (parse (putIn extra place bytes))) ≡ choiceAside (chooseFrom kems numbers (parse bytes))
+      → choiceAside (chooseFrom kems numbers (parse longer)) ≡ choiceAside (chooseFrom kems numbers (parse bytes))
 
 -- a skipped configuration put into a good list at any place between configurations, with at most sixteen in all
 abbrev pub SkippingChangesNothingElse : Type 0
 SkippingChangesNothingElse =
     (bytes extra : List ℕ) (place : ℕ) (cs : List Configuration) → parse bytes ≡ good cs
-    → length (starts bytes) < mostConfigurations → isBetween place bytes ≡ true → OneSkipped extra → ReadAlike bytes extra place cs
+    → length (starts bytes) < mostConfigurations → isBetween place bytes ≡ true → OneSkipped extra
+    → ReadAlike bytes (putIn extra place bytes) place (length extra) cs
 
 -- each is a configuration that is skipped
 abbrev pub EachSkipped : List (List ℕ) → Type 0

@@ -121,7 +121,7 @@ pub fn check(list: &[u8]) -> Checked
     let mut at = 0;
     while at < list.len() {
         if MOST_CONFIGURATIONS <= read + skipped {
-            return outcome(false, read, skipped, at);
+            return Checked::Refused(Refusal::bad_list(at));
         }
         if is_skipped(list, at) {
             skipped += 1;

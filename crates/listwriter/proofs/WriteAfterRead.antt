@@ -1,4 +1,4 @@
--- Writing what was read by the layout gives the same bytes, where none was skipped: specs/Stated's WriteAfterRead and SkippedIsNotWritten.
+-- Writing what was read by the layout gives the same bytes, where none was skipped: specs/Stated's WriteAfterRead.
 -- Assumes nothing.
 use mathlib.Core.Path.{_≡_, refl, sym, _∙_}
 use mathlib.Core.Bool.{Bool, true, false, not}
@@ -13,18 +13,16 @@ use lib.Seq.{length-take-le, take-append-seam, drop-append-seam, drop-drop, drop
 use borrow.Author.Tests.{leb-true, leb-false, le-leb, eq-eqb}
 use Rattle.wire.specs.Tests.{pick, _and_}
 use Rattle.wire.specs.Bytes.{byteAt, wordAt, wordBytes, part}
-use Rattle.listwriter.specs.Writer.{wordsBytes, encode, encodeBehind, cut}
-use Rattle.wire.specs.Search.{among, anyPasses, firstPlace}
+use Rattle.listwriter.specs.Writer.{wordsBytes}
+use Rattle.wire.specs.Search.{among}
 use Rattle.wire.specs.Refusals.{badList}
 use Rattle.wire.proofs.Booleans.{either, and-left, and-right}
 use Rattle.algorithms.specs.Sizes.{knownKem, publicKeyLength}
-use Rattle.algorithms.specs.Table.{rowOf, table}
-use Rattle.keylist.specs.Edges.{edgeList, hex}
 use Rattle.keylist.specs.Layout.{Configuration, good, bad, lengthAt, keyIdAt, kemAt, keyStart, keyEnd, pairBytesAt, pairsAt, pairsStart, nextStart, configurationAt, isSkipped, pairBytesHold, layoutHolds, followedBy, parseFrom, parse, mostConfigurations, Result}
 use Rattle.keylist.proofs.LayoutLaws.{Holds, held-not-skipped}
 use Rattle.keylist.proofs.Parsing.{by-reading, holding, no-refusal, skipsFrom, skips-one, skips-none}
 use Rattle.listwriter.specs.Helpers.{firstHolds}
-use Rattle.listwriter.specs.Stated.{AreBytes, pairNumbers, idsOf, asFields, SkippedIsNotWritten, WriteAfterRead}
+use Rattle.listwriter.specs.Stated.{AreBytes, pairNumbers, idsOf, asFields, WriteAfterRead}
 use Rattle.listwriter.proofs.FlatFields.{behindFirst, firstLength, firstBytes, encodeFrom, walk, same-fields, first-laid, end-given}
 use Rattle.listwriter.proofs.Cutting.{encode-is-walk}
 
@@ -149,7 +147,3 @@ write-after-read (b ∷ bytes) [] all none e =
     absurd (let z : _≡_ {A = ℕ} 0 1 = cc in omega arith)
 write-after-read (b ∷ bytes) (c ∷ cs) all none e =
     encode-is-walk (idsOf (c ∷ cs)) (asFields (c ∷ cs)) ∙ write-from (b ∷ bytes) mostConfigurations [] 0 (c ∷ cs) all e none
-
-pub skipped-is-not-written : SkippedIsNotWritten
-unfolding edgeList hex parse parseFrom isSkipped layoutHolds configurationAt pairsAt knownKem publicKeyLength rowOf table firstPlace anyPasses encode encodeBehind cut flatMap
-skipped-is-not-written = record { read = refl; written = refl; lengths = refl }

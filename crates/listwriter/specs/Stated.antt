@@ -1,12 +1,11 @@
 -- What holds of reading and writing key lists together.
 use Prim.Native.Nat.{ℕ, _<_}
 use mathlib.Core.Path.{_≡_}
-use mathlib.Core.List.{List, [], _∷_, _++_, map, flatMap}
+use mathlib.Core.List.{List, [], _∷_, map, flatMap}
 use lib.ListN.{length, getD}
 use Rattle.keylist.specs.declared.Pair.{Pair}
 use Rattle.keylist.specs.Answers.{skippedIn}
-use Rattle.keylist.specs.Edges.{edgeList, unknownKem}
-use Rattle.keylist.specs.Layout.{Configuration, configurationAt, good, parse}
+use Rattle.keylist.specs.Layout.{Configuration, good, parse}
 use Rattle.listwriter.specs.Writer.{Fields, fields, encode}
 
 -- each element is a byte, as every element of a lent slice is
@@ -42,9 +41,3 @@ abbrev pub WriteAfterRead : Type 0
 WriteAfterRead =
     (bytes : List ℕ) (cs : List Configuration) → AreBytes bytes → NoneSkipped bytes → parse bytes ≡ good cs
     → encode (idsOf cs) (asFields cs) ≡ good bytes
-
--- the condition is needed: of 01's list behind a configuration with an unknown KEM, writing what was read gives 01's list alone
-pub record SkippedIsNotWritten : Type 0 where
-  pub read : parse (unknownKem ++ edgeList) ≡ good (configurationAt (unknownKem ++ edgeList) 5 ∷ [])
-  pub written : encode (idsOf (configurationAt (unknownKem ++ edgeList) 5 ∷ [])) (asFields (configurationAt (unknownKem ++ edgeList) 5 ∷ [])) ≡ good edgeList
-  pub lengths : length (unknownKem ++ edgeList) ∷ length edgeList ∷ [] ≡ 48 ∷ 43 ∷ []

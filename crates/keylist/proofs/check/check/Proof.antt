@@ -61,7 +61,7 @@ unfolding counted
 returns-2 c =
     let l = c .before .before .before .loop in
     let list = c .before .before .before .before .before .before .args .list .now in
-    rw (c .outcome .ensures, l .inv .3, parse-too-many (16 - (l .read + l .skipped)) (take (l .read) (l .taken)) list (l .at) (omega arith) (omega arith))
+    rw (c .bad-list2 .ensures, l .inv .3, parse-too-many (16 - (l .read + l .skipped)) (take (l .read) (l .taken)) list (l .at) (omega arith) (omega arith))
 
 loop-again : tie.Need-loop-again Inv-loop μ-loop
 loop-again c =
@@ -89,7 +89,7 @@ returns-3 c =
     let list = c .before .before .before .before .before .before .before .before .before .before .before .args .list .now in
     let taken = take (l .read) (l .taken) in
     let bad = sym (c .before .before .is-good .ensures) ∙ not-true _ (c .before .if4 .taken) in
-    rw (c .outcome2 .ensures, l .inv .3, parse-bad (16 - (l .read + l .skipped)) taken list (l .at) (omega arith) (unskipped (c .before .before .before .before)) bad)
+    rw (c .outcome .ensures, l .inv .3, parse-bad (16 - (l .read + l .skipped)) taken list (l .at) (omega arith) (unskipped (c .before .before .before .before)) bad)
 
 loop-again-2 : tie.Need-loop-again-2 Inv-loop μ-loop
 loop-again-2 c =
@@ -120,7 +120,7 @@ returns-4 c =
     let l = c .before .before .loop in
     let list = c .before .before .before .before .before .args .list .now in
     rw (
-      c .outcome3 .ensures,
+      c .outcome2 .ensures,
       l .inv .3,
       parse-end _ _ list (l .at) (omega arith),
       skips-end (16 - (l .read + l .skipped)) list (l .at) (omega arith),

@@ -1,0 +1,22 @@
+-- What is skipped is not written, computed.
+-- Assumes nothing.
+use mathlib.Core.Path.{refl}
+use mathlib.Core.List.{flatMap}
+use Rattle.wire.specs.Search.{anyPasses, filtered, firstPlace}
+use Rattle.algorithms.specs.Sizes.{knownKem, publicKeyLength}
+use Rattle.algorithms.specs.Table.{rowOf, table}
+use Rattle.keylist.specs.Answers.{startsFrom}
+use Rattle.keylist.specs.Edges.{edgeList, hex}
+use Rattle.keylist.specs.Layout.{configurationAt, isSkipped, layoutHolds, pairsAt, parse, parseFrom}
+use Rattle.listwriter.specs.Writer.{cut, encode, encodeBehind}
+use Rattle.listwriter.specs.Edges.{SkippedIsNotWritten}
+
+pub skipped-is-not-written : SkippedIsNotWritten
+unfolding edgeList hex parse parseFrom isSkipped layoutHolds configurationAt pairsAt knownKem publicKeyLength rowOf table firstPlace anyPasses filtered startsFrom encode encodeBehind cut flatMap
+skipped-is-not-written =
+    record {
+      skipped = refl;
+      read = refl;
+      written = refl;
+      lengths = refl;
+    }
