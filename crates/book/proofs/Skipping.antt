@@ -6,16 +6,16 @@ use mathlib.Core.List.{List, [], _∷_, _++_, map, flatten, append-assoc, append
 use mathlib.Core.Option.{Option, Option·map, none, some}
 use Prim.Native.Nat.{ℕ, zero, suc, _+_, _-_, _%_, _≤_, _<_, min}
 use native.Mathlib.Omega.{arith}
-use borrow.Author.Tests.{eq-eqb, ne-eqb, eqb-true, eqb-false, le-leb, lt-leb, leb-true, leb-false, le-ltb, lt-ltb}
+use borrow.Author.Tests.{eq-eqb, eqb-true, eqb-false, le-leb, lt-leb, leb-false, le-ltb, lt-ltb}
 use lib.Dec.{eqb, leb}
-use lib.ListN.{length, take, drop, length-append, length-drop, length-map, length-take, take-append-drop}
+use lib.ListN.{length, take, drop, length-append, length-drop, length-map, take-append-drop}
 use lib.Seq.{drop-append-add, drop-append-le, drop-append-seam, drop-at, drop-drop, length-take-le}
-use Rattle.wire.specs.Search.{among, anyPasses, filtered, find}
+use Rattle.wire.specs.Search.{among, anyPasses, find}
 use Rattle.wire.proofs.Booleans.{either, true-or-false}
-use Rattle.keylist.specs.Layout.{Configuration, configurationAt, followedBy, good, isSkipped, keyIdAt, lengthAt, mostConfigurations, nextStart, parse, parseFrom}
+use Rattle.keylist.specs.Layout.{Configuration, configurationAt, followedBy, good, lengthAt, mostConfigurations, nextStart, parse, parseFrom}
 use Rattle.keylist.specs.Answers.{configurationWith, keyPart, keyPlaceIn, startsFrom}
 use Rattle.keylist.proofs.LayoutLaws.{held-not-skipped, skipped}
-use Rattle.keylist.proofs.Parsing.{by-reading, goodAt, holding, parse-end, parse-more, parse-skip, parse-some, skipsFrom, skips-end, skips-none, skips-one}
+use Rattle.keylist.proofs.Parsing.{by-reading, holding, parse-end, parse-more, parse-skip, parse-some, skipsFrom, skips-end, skips-none, skips-one}
 use Rattle.keylist.proofs.Standing.{Standing, skip-alike, read-alike}
 use Rattle.keylist.proofs.Walk.{not-empty, parse-all}
 use Rattle.keylist.proofs.Keys.{public-key-exactly}
@@ -70,9 +70,13 @@ module _ (bytes : List ℕ) where
       (λ i. let is = eqb-true at place i in (omega (arith, is), omega (arith, is, inside)))
       (λ i. let on = between-inside more (nextStart bytes at) place (rw (h, i) at e) in (omega (arith, on, inside), on .1)))
 
-  between-next : (more at place : ℕ) → at < place → at < length bytes → Between (suc more) at place → Between more (nextStart bytes at) place
+  -- a place that is not at the offset, where a configuration starts that lies in the list, is one behind that configuration
+  between-next : (more at place : ℕ) → at ≤ place → eqb at place ≡ false → nextStart bytes at ≤ length bytes → Between (suc more) at place
+      → (at < place) × (nextStart bytes at ≤ place) × Between more (nextStart bytes at) place
   unfolding anyPasses
-  between-next more at place h inside e = rw (starts-more more at inside, ne-eqb at place (λ i. omega arith)) at e
+  between-next more at place h i whole e =
+      let later : Between more (nextStart bytes at) place = rw (starts-more more at (omega arith), i) at e in
+      (omega (arith, eqb-false at place i), omega (arith, between-inside more (nextStart bytes at) place later), later)
 
   -- a good list is read with as many as it has
   enough : (more : ℕ) (taken : List ℕ) (at : ℕ) (cs : List Configuration) → parseFrom more taken bytes at ≡ good cs
@@ -210,33 +214,27 @@ module _ (bytes extra : List ℕ) (place : ℕ) (there : place ≤ length bytes)
         (λ more taken at h front between.
         at-place more taken at [] (omega arith) (parse-end more taken bytes at h))
         (λ more taken at cs k parsed of front between.
-        let inside = skipped bytes at k .whole in
         either (eqb at place)
         (λ i. at-place (suc more) taken at cs (eqb-true at place i) (parse-skip more taken bytes at k ∙ parsed))
         (λ i.
-        let before : at < place = omega (arith, eqb-false at place i) in
-        let later = between-next bytes more at place before (omega arith) between in
-        let next : nextStart bytes at ≤ place = omega (arith, between-inside bytes more (nextStart bytes at) place later) in
+        let (_, next, later) = between-next bytes more at place front i (skipped bytes at k .whole) between in
         let s = standing-front at next in
         let on = of next later in
         let step = skip-alike s (suc more) taken (nextStart bytes at) (omega (arith, s .exact)) k in
         (step .0 ∙ on .0, step .1 ∙ ap suc (on .1 ∙ sym (skips-one more bytes at k)))))
         (λ more taken at cs g parsed of front between.
         let h = holding bytes taken at g in
-        let inside = h .whole in
         either (eqb at place)
         (λ i.
         at-place (suc more) taken at (configurationAt bytes at ∷ cs) (eqb-true at place i)
         (parse-more more taken bytes at g ∙ ap (followedBy (configurationAt bytes at)) parsed))
         (λ i.
-        let before : at < place = omega (arith, eqb-false at place i) in
-        let later = between-next bytes more at place before (omega arith) between in
-        let next : nextStart bytes at ≤ place = omega (arith, between-inside bytes more (nextStart bytes at) place later) in
+        let (before, next, later) = between-next bytes more at place front i (h .whole) between in
         let s = standing-front at next in
         let on = of next later in
         let step = read-alike s (suc more) taken (nextStart bytes at) (omega (arith, s .exact)) g in (
           rw (step .0, on .0, lt-ltb at place before),
-          step .1 ∙ on .1 ∙ ap suc (sym (skips-none more bytes at (omega arith) (held-not-skipped bytes at h))),
+          step .1 ∙ on .1 ∙ ap suc (sym (skips-none more bytes at (omega (arith, h .whole)) (held-not-skipped bytes at h))),
         )))
 
     -- the whole of it

@@ -13,7 +13,7 @@ use Rattle.wire.specs.declared.refusal.Refusal.{Refusal}
 use Rattle.wire.proofs.Booleans.{either}
 use Rattle.algorithms.specs.Sizes.{publicKeyLength}
 use Rattle.keylist.specs.declared.Checked.{Checked}
-use Rattle.keylist.specs.Layout.{Configuration, good, bad, parse, parseFrom, followedBy, configurationAt, isSkipped, keyIdAt, kemAt, nextStart, mostConfigurations, Result}
+use Rattle.keylist.specs.Layout.{Configuration, good, bad, parse, parseFrom, configurationAt, isSkipped, keyIdAt, kemAt, nextStart, mostConfigurations, Result}
 use Rattle.keylist.specs.Answers.{checkedFrom}
 use Rattle.keylist.specs.Helpers.{readFrom, firstRead}
 use Rattle.keylist.proofs.LayoutLaws.{Holds, skipped}

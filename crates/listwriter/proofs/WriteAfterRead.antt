@@ -1,7 +1,7 @@
 -- Writing what was read by the layout gives the same bytes, where none was skipped: specs/Stated's WriteAfterRead.
 -- Assumes nothing.
 use mathlib.Core.Path.{_≡_, refl, sym, _∙_}
-use mathlib.Core.Bool.{Bool, true, false, not}
+use mathlib.Core.Bool.{true, not}
 use mathlib.Core.List.{List, [], _∷_, _++_, flatMap}
 use Prim.Native.Nat.{ℕ, zero, suc, _+_, _*_, _/_, _%_, _≤_, _<_}
 use native.Mathlib.Nat.{add-assoc, add-zero}
@@ -10,20 +10,19 @@ use native.Mathlib.Omega.{arith}
 use lib.Dec.{leb}
 use lib.ListN.{length, drop, take-append-drop, length-append, length-drop, drop-of-length-le}
 use lib.Seq.{length-take-le, take-append-seam, drop-append-seam, drop-drop, drop-cons}
-use borrow.Author.Tests.{leb-true, leb-false, le-leb, eq-eqb}
-use Rattle.wire.specs.Tests.{pick, _and_}
+use borrow.Author.Tests.{le-leb, eq-eqb}
+use Rattle.wire.specs.Tests.{_and_}
 use Rattle.wire.specs.Bytes.{byteAt, wordAt, wordBytes, part}
 use Rattle.listwriter.specs.Writer.{wordsBytes}
 use Rattle.wire.specs.Search.{among}
-use Rattle.wire.specs.Refusals.{badList}
-use Rattle.wire.proofs.Booleans.{either, and-left, and-right}
+use Rattle.wire.proofs.Booleans.{and-right}
 use Rattle.algorithms.specs.Sizes.{knownKem, publicKeyLength}
-use Rattle.keylist.specs.Layout.{Configuration, good, bad, lengthAt, keyIdAt, kemAt, keyStart, keyEnd, pairBytesAt, pairsAt, pairsStart, nextStart, configurationAt, isSkipped, pairBytesHold, layoutHolds, followedBy, parseFrom, parse, mostConfigurations, Result}
+use Rattle.keylist.specs.Layout.{Configuration, good, lengthAt, keyIdAt, kemAt, keyStart, keyEnd, pairBytesAt, pairsAt, pairsStart, nextStart, configurationAt, pairBytesHold, layoutHolds, parseFrom, parse, mostConfigurations, Result}
 use Rattle.keylist.proofs.LayoutLaws.{Holds, held-not-skipped}
 use Rattle.keylist.proofs.Parsing.{by-reading, holding, no-refusal, skipsFrom, skips-one, skips-none}
 use Rattle.listwriter.specs.Helpers.{firstHolds}
 use Rattle.listwriter.specs.Stated.{AreBytes, pairNumbers, idsOf, asFields, WriteAfterRead}
-use Rattle.listwriter.proofs.FlatFields.{behindFirst, firstLength, firstBytes, encodeFrom, walk, same-fields, first-laid, end-given}
+use Rattle.listwriter.proofs.FlatFields.{behindFirst, firstLength, firstBytes, encodeFrom, walk, same-fields, first-laid}
 use Rattle.listwriter.proofs.Cutting.{encode-is-walk}
 
 module _ (bytes : List ℕ) where

@@ -9,11 +9,10 @@ use lib.ListN.{length-take, length-set, length, take, set}
 use lib.Seq.{take-suc-set}
 use Rattle.keylist.proofs.Parsing.{parse-end, parse-bad, parse-too-many, parse-skip, parse-more, parse-some, parse-none, counted, counted-none, counted-read, counted-skip, goodAt, holding, skipsFrom, skips-end, skips-one, skips-none}
 use Rattle.keylist.proofs.LayoutLaws.{skipped}
-use Rattle.keylist.specs.declared.Checked.{Checked}
 use Rattle.keylist.specs.Answers.{checked}
-use Rattle.keylist.specs.Layout.{parse, parseFrom, keyIdAt, isSkipped, nextStart}
-use mathlib.Core.Path.{_≡_, refl, sym, ap, _∙_}
-use Prim.Native.Nat.{suc, _+_, _-_, _≤_, _<_}
+use Rattle.keylist.specs.Layout.{parseFrom, keyIdAt, isSkipped, nextStart}
+use mathlib.Core.Path.{_≡_, refl, sym, _∙_}
+use Prim.Native.Nat.{suc, _+_, _-_, _≤_}
 use native.Mathlib.Omega.{arith}
 use borrow.Author.Needs.{needs}
 use borrow.Author.Tests.{not-true, not-false}

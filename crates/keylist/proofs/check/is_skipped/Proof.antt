@@ -1,8 +1,7 @@
 -- `keylist::check::is_skipped` meets its contract: each return is one law about the definition.
 -- Assumes nothing.
-use Rattle.algorithms.specs.Sizes.{publicKeyLength}
 use Rattle.keylist.proofs.LayoutLaws.{skips-not-whole, skips-not-short, skips-by-kem}
-use mathlib.Core.Path.{sym, ap, _∙_}
+use mathlib.Core.Path.{sym}
 use native.Mathlib.Omega.{arith}
 use borrow.Author.Needs.{needs}
 use Rattle.keylist.proofs.check.is_skipped.Statement.{statement}
