@@ -210,8 +210,8 @@ typedef struct sealwax_sizes_result {
 
 /*
  * Makes a fresh gateway of a key list and a cap, the uses allowed per key, 1 to 1,000,000,000. A configuration that is skipped (see
- * sealwax_check) makes no key; where all are, the gateway has none. Refusals: 15, 17; the gateway is then one without keys, which refuses
- * every request. What the memory held before is gone either way: to keep a gateway that is in use, set
+ * sealwax_check) makes no key; where all are skipped the gateway has none and refuses every request. Refusals: 15, 17; the gateway is then
+ * one without keys, too. What the memory held before is gone either way: to keep a gateway that is in use, set
  * up another one and change over where that was accepted.
  */
 sealwax_setup_result sealwax_setup(sealwax_gateway *gateway, const uint8_t *list, size_t list_length, uint64_t cap);
@@ -259,12 +259,12 @@ size_t sealwax_find(sealwax_gateway *gateway, uint64_t ticket, uint64_t near);
 
 /*
  * Whether a key list is good, and how many of its configurations were read and how many skipped. A configuration of at least 3 bytes that
- * lies whole in the list and has an unknown KEM is skipped: its inside is not read and its key id not taken. A host may log how many, so
- * that somebody sees that a list has a KEM which this release does not know. Refusal: 15.
+ * lies whole in the list and has an unknown KEM is skipped: its inside is not read and its key id not taken, but it counts towards the
+ * sixteen. A host may log how many, so that somebody sees that a list has a KEM which this release does not know. Refusal: 15.
  */
 sealwax_check_result sealwax_check(const uint8_t *list, size_t list_length);
 
-/* Where the public key of a key id lies in a list. Refusals: 15, 4. */
+/* Where the public key of a key id lies in a list. Refusals: 15; 4, also for the id of a configuration that is skipped. */
 sealwax_key_result sealwax_key(const uint8_t *list, size_t list_length, uint8_t key_id);
 
 /*

@@ -157,7 +157,7 @@ mod tests {
     #[test]
     fn choose_where_all_are_skipped() {
         let list = [unknown(7, 0x22, 41), unknown(8, 0x30, 3)].concat();
-        // A KEM that the client knows is none "unknown above never match".
+        // "Numbers unknown above never match", even where the client knows them.
         let kems = [0x20, 0x22, 0x30];
         assert_eq!(choose(&list, &kems, &[1, 3]), Err(refusal(16)));
         assert_eq!(choose(&list, &[], &[]), Err(refusal(16)));

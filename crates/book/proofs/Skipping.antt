@@ -2,9 +2,10 @@
 -- Assumes nothing.
 use mathlib.Core.Path.{_≡_, refl, sym, ap, _∙_}
 use mathlib.Core.Bool.{true, false}
-use mathlib.Core.List.{List, [], _∷_, _++_, map, flatten, append-assoc, append-nil}
+use mathlib.Core.List.{List, [], _∷_, _++_, map, flatMap, append-assoc, append-nil}
 use mathlib.Core.Option.{Option, Option·map, none, some}
 use Prim.Native.Nat.{ℕ, zero, suc, _+_, _-_, _%_, _≤_, _<_, min}
+use native.Mathlib.Nat.{div-add-mod'}
 use native.Mathlib.Omega.{arith}
 use borrow.Author.Tests.{eq-eqb, eqb-true, eqb-false, le-leb, lt-leb, leb-false, le-ltb, lt-ltb}
 use lib.Dec.{eqb, leb}
@@ -12,7 +13,7 @@ use lib.ListN.{length, take, drop, length-append, length-drop, length-map, take-
 use lib.Seq.{drop-append-add, drop-append-le, drop-append-seam, drop-at, drop-drop, length-take-le}
 use Rattle.wire.specs.Search.{among, anyPasses, find}
 use Rattle.wire.proofs.Booleans.{either, true-or-false}
-use Rattle.keylist.specs.Layout.{Configuration, configurationAt, followedBy, good, lengthAt, mostConfigurations, nextStart, parse, parseFrom}
+use Rattle.keylist.specs.Layout.{Configuration, configurationAt, followedBy, good, isSkipped, lengthAt, mostConfigurations, nextStart, parse, parseFrom}
 use Rattle.keylist.specs.Answers.{configurationWith, keyPart, keyPlaceIn, startsFrom}
 use Rattle.keylist.proofs.LayoutLaws.{held-not-skipped, skipped}
 use Rattle.keylist.proofs.Parsing.{by-reading, holding, parse-end, parse-more, parse-skip, parse-some, skipsFrom, skips-end, skips-none, skips-one}
@@ -27,7 +28,27 @@ use Rattle.keys.specs.Keys.{keysOf}
 use Rattle.keys.specs.Stored.{storedKey, storedKeys}
 use Rattle.client.specs.Choose.{chooseFirst, usable}
 use Rattle.book.proofs.Refusing.{none-pending}
-use Rattle.book.specs.Skipping.{AllSkipped, EachSkipped, OneSkipped, SkippingChangesNothingElse, UnknownKemRefused, choiceAside, keyPlaceAside, movedBehind, putIn}
+use Rattle.book.specs.Skipping.{AllSkipped, SkippingChangesNothingElse, UnknownKem, UnknownKemRefused, bytesOf, choiceAside, keyPlaceAside, movedBehind, putIn}
+
+-- bytes that are one configuration, which is skipped
+abbrev OneSkipped : List ℕ → Type 0
+OneSkipped bytes = (isSkipped bytes 0 ≡ true) × (nextStart bytes 0 ≡ length bytes)
+
+-- a configuration with an unknown KEM is one, whatever its inside is
+unknown-is-skipped : (c : UnknownKem) → OneSkipped (bytesOf c)
+unfolding isSkipped
+unknown-is-skipped c =
+    let length-said = div-add-mod' (3 + length (c .inside)) 256 in (
+      rw (
+        length-said,
+        div-add-mod' (c .kem) 256,
+        c .unknown,
+        le-leb (2 + (3 + length (c .inside))) (length (bytesOf c)) (omega arith),
+        le-leb 3 (3 + length (c .inside)) (omega arith),
+      )
+          refl,
+      rw length-said (omega arith),
+    )
 
 -- Where configurations start.
 module _ (bytes : List ℕ) where
@@ -282,11 +303,11 @@ module _ (place size : ℕ) where
 
 pub skipping-changes-nothing-else : SkippingChangesNothingElse
 unfolding storedKeys
-skipping-changes-nothing-else bytes extra place cs read few between one =
+skipping-changes-nothing-else bytes extra place cs read few between =
     let inside = between-inside bytes mostConfigurations 0 place between .1 in
-    let size = length extra in
-    let (configurations, skips) = read-longer bytes extra place inside one cs read few between in
-    let longer = putIn extra place bytes in
+    let size = length (bytesOf extra) in
+    let (configurations, skips) = read-longer bytes (bytesOf extra) place inside (unknown-is-skipped extra) cs read few between in
+    let longer = putIn (bytesOf extra) place bytes in
     record {
       configurations = configurations;
       skipped = skips;
@@ -313,37 +334,40 @@ unknown-kem-refused engine g request info unknown longEnough notTooLong =
 
 -- A list of skipped configurations, from an offset on at which the rest of them stand.
 module _ (bytes : List ℕ) where
-  none-read : (all : List (List ℕ)) (more : ℕ) (taken : List ℕ) (at : ℕ) → EachSkipped all → length all ≤ more → at ≤ length bytes
-      → drop at bytes ≡ flatten all → (parseFrom more taken bytes at ≡ good []) × (skipsFrom more bytes at ≡ length all)
-  unfolding flatten
-  none-read [] more taken at each few inside there =
+  none-read : (all : List UnknownKem) (more : ℕ) (taken : List ℕ) (at : ℕ) → length all ≤ more → at ≤ length bytes
+      → drop at bytes ≡ flatMap bytesOf all → (parseFrom more taken bytes at ≡ good []) × (skipsFrom more bytes at ≡ length all)
+  unfolding flatMap
+  none-read [] more taken at few inside there =
       let end : length bytes ≤ at = omega (arith, rw length-drop at (ap length there)) in
       (parse-end more taken bytes at end, skips-end more bytes at end)
-  none-read (one ∷ all) zero taken at each few inside there = absurd (omega arith)
-  none-read (one ∷ all) (suc more) taken at each few inside there =
+  none-read (c ∷ all) zero taken at few inside there = absurd (omega arith)
+  none-read (c ∷ all) (suc more) taken at few inside there =
+      let one = bytesOf c in
+      let is = unknown-is-skipped c in
       let s : Standing bytes at one 0 =
       record {
         own = one;
-        behindA = flatten all;
+        behindA = flatMap bytesOf all;
         behindB = [];
         inA = there;
         inB = sym (append-nil one);
-        exact = omega (arith, each .0 .1);
+        exact = omega (arith, is .1);
       } in
       let within : at + length one ≤ length bytes = omega (arith, simp (length-drop, length-append) at (ap length there)) in
-      let step = skip-alike s more taken (at + length one) refl (each .0 .0) in
-      let behind : drop (at + length one) bytes ≡ flatten all = rw (← drop-drop (length one) at bytes, there) (drop-append-seam one (flatten all)) in
-      let on = none-read all more taken (at + length one) (each .1) (omega arith) within behind in
+      let step = skip-alike s more taken (at + length one) refl (is .0) in
+      let behind : drop (at + length one) bytes ≡ flatMap bytesOf all =
+      rw (← drop-drop (length one) at bytes, there) (drop-append-seam one (flatMap bytesOf all)) in
+      let on = none-read all more taken (at + length one) (omega arith) within behind in
       (step .0 ∙ on .0, step .1 ∙ ap suc (on .1))
 
 pub all-skipped : AllSkipped
-unfolding flatten storedKeys keysOf find
-all-skipped [] each there few = absurd (omega arith)
-all-skipped (one ∷ rest) each there few =
-    let bytes = flatten (one ∷ rest) in
-    let (from-0, skips) = none-read bytes (one ∷ rest) mostConfigurations [] 0 each few (omega arith) refl in
-    let size : length bytes ≡ length one + length (flatten rest) = length-append one (flatten rest) in
-    let read : parse bytes ≡ good [] = parse-some bytes (omega (arith, size, each .0 .1)) ∙ from-0 in
+unfolding flatMap storedKeys keysOf find
+all-skipped [] there few = absurd (omega arith)
+all-skipped (c ∷ rest) there few =
+    let bytes = flatMap bytesOf (c ∷ rest) in
+    let (from-0, skips) = none-read bytes (c ∷ rest) mostConfigurations [] 0 few (omega arith) refl in
+    let size : length bytes ≡ length (bytesOf c) + length (flatMap bytesOf rest) = length-append (bytesOf c) (flatMap bytesOf rest) in
+    let read : parse bytes ≡ good [] = parse-some bytes (omega (arith, size)) ∙ from-0 in
     record {
       check = rw (read, skips) refl;
       answer = λ cap h. rw (read, h) refl;

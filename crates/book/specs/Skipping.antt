@@ -2,17 +2,18 @@
 use Prim.Native.Nat.{ℕ, _+_, _%_, _≤_, _<_}
 use mathlib.Core.Path.{_≡_}
 use mathlib.Core.Bool.{Bool, true, false}
-use mathlib.Core.List.{List, [], _∷_, _++_, map, flatten}
+use mathlib.Core.List.{List, [], _∷_, _++_, map, flatMap}
 use lib.Dec.{ltb}
 use lib.ListN.{length, take, drop}
 use Rattle.wire.specs.Tests.{pick}
+use Rattle.wire.specs.Bytes.{wordBytes}
 use Rattle.wire.specs.Search.{among}
 use Rattle.wire.specs.Refusals.{refused}
 use Rattle.wire.specs.Texts.{headLength, longestRequest}
 use Rattle.algorithms.specs.Sizes.{knownKem}
 use Rattle.keylist.specs.declared.Checked.{Checked}
 use Rattle.keylist.specs.declared.KeyPlace.{KeyPlace}
-use Rattle.keylist.specs.Layout.{Configuration, good, isSkipped, mostConfigurations, nextStart, parse}
+use Rattle.keylist.specs.Layout.{Configuration, good, mostConfigurations, parse}
 use Rattle.keylist.specs.Answers.{checked, keyPart, keyPlaceIn, skippedIn, starts}
 use Rattle.client.specs.declared.choose.Chosen.{Chosen}
 use Rattle.client.specs.Choose.{chooseFrom}
@@ -25,9 +26,16 @@ use Rattle.gateway.specs.Gateway.{freshGateway, gatewayDoes}
 use Rattle.gateway.specs.View.{registryOf, pendingIn}
 use Rattle.gateway.specs.Calls.{admit, number}
 
--- bytes that are one configuration, which is skipped
-abbrev pub OneSkipped : List ℕ → Type 0
-OneSkipped bytes = (isSkipped bytes 0 ≡ true) × (nextStart bytes 0 ≡ length bytes)
+-- a configuration with an unknown KEM: its key id, its KEM, and what stands behind them
+pub record UnknownKem : Type 0 where
+  pub keyId : ℕ
+  pub kem : ℕ
+  pub inside : List ℕ
+  pub unknown : knownKem kem ≡ false
+
+-- its bytes, with its length in front: at least 3
+abbrev pub bytesOf : UnknownKem → List ℕ
+bytesOf c = wordBytes (3 + length (c .inside)) ++ c .keyId ∷ (wordBytes (c .kem) ++ c .inside)
 
 -- a place between configurations: where one starts, or the list's end
 abbrev pub isBetween : ℕ → List ℕ → Bool
@@ -70,17 +78,12 @@ pub record ReadAlike (bytes longer : List ℕ) (place size : ℕ) (cs : List Con
   pub choice : (kems numbers : List ℕ)
       → choiceAside (chooseFrom kems numbers (parse longer)) ≡ choiceAside (chooseFrom kems numbers (parse bytes))
 
--- a skipped configuration put into a good list at any place between configurations, with at most sixteen in all
+-- a configuration with an unknown KEM put into a good list at any place between configurations, with at most sixteen in all
 abbrev pub SkippingChangesNothingElse : Type 0
 SkippingChangesNothingElse =
-    (bytes extra : List ℕ) (place : ℕ) (cs : List Configuration) → parse bytes ≡ good cs
-    → length (starts bytes) < mostConfigurations → isBetween place bytes ≡ true → OneSkipped extra
-    → ReadAlike bytes (putIn extra place bytes) place (length extra) cs
-
--- each is a configuration that is skipped
-abbrev pub EachSkipped : List (List ℕ) → Type 0
-EachSkipped [] = Unit
-EachSkipped (bytes ∷ rest) = OneSkipped bytes × EachSkipped rest
+    (bytes : List ℕ) (extra : UnknownKem) (place : ℕ) (cs : List Configuration) → parse bytes ≡ good cs
+    → length (starts bytes) < mostConfigurations → isBetween place bytes ≡ true
+    → ReadAlike bytes (putIn (bytesOf extra) place bytes) place (length (bytesOf extra)) cs
 
 -- "A list in which all are skipped sets up a gateway without keys", with the cap that was given; "choose answers 16", and the key reader 4
 pub record WithoutKeys (bytes : List ℕ) (skips : ℕ) : Type 0 where
@@ -91,10 +94,10 @@ pub record WithoutKeys (bytes : List ℕ) (skips : ℕ) : Type 0 where
   pub choice : (kems numbers : List ℕ) → length numbers % 2 ≡ 0 → chooseFrom kems numbers (parse bytes) ≡ Chosen.Refused (refused 16)
   pub key : (id : ℕ) → keyPlaceIn id (parse bytes) ≡ KeyPlace.Refused (refused 4)
 
--- one configuration or more, sixteen at most, one behind the other
+-- one or more, sixteen at most, one behind the other
 abbrev pub AllSkipped : Type 0
 AllSkipped =
-    (all : List (List ℕ)) → EachSkipped all → 0 < length all → length all ≤ mostConfigurations → WithoutKeys (flatten all) (length all)
+    (all : List UnknownKem) → 0 < length all → length all ≤ mostConfigurations → WithoutKeys (flatMap bytesOf all) (length all)
 
 -- "Requests naming that KEM still get 3", whatever the gateway holds, where neither 2 nor 1 comes first
 abbrev pub UnknownKemRefused : Type 0

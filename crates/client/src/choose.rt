@@ -77,7 +77,7 @@ fn choose_in_good(list: &[u8], kems: &[u16], pairs: &[u16]) -> Chosen
     refused(Refusal::NO_USABLE_CONFIGURATION)
 }
 
-// The choice where the configuration at an offset is the only one. It keeps the layout's rules, as all of a good list do.
+// The choice where the configuration at an offset is the only one. It keeps the layout's rules, as all that are read do.
 fn choose_at(list: &[u8], at: usize, kems: &[u16], pairs: &[u16]) -> Chosen
     requires { ⌜ layoutHolds (now list) at ≡ true ⌝ }
     ensures { λ r. ⌜ r ≡ chooseFirst (now (kems .entry)) (now (pairs .entry)) (configurationAt (now (list .entry)) at ∷ []) ⌝ }

@@ -95,7 +95,7 @@ pub struct AfterSetup {
 }
 
 impl Gateway {
-    // A fresh gateway of a key list and a cap, or the refusal and the gateway without keys.
+    // A fresh gateway of a key list and a cap, or the refusal and a gateway without keys, cap 1.
     pub fn setup(list: &[u8], cap: u64) -> AfterSetup
         ensures gateway { λ r. ⌜ r .gateway ≡ freshGateway (now (list .entry)) cap ⌝ }
         ensures answer { λ r. ⌜ r .answer ≡ setupAnswer (setup (now (list .entry)) cap) ⌝ }
@@ -225,7 +225,7 @@ fn empty(cap: u32, keys: Keys) -> Gateway
     }
 }
 
-// The gateway without keys, with the refusal.
+// A gateway without keys, cap 1, with the refusal.
 fn refused_setup(refusal: Refusal) -> AfterSetup
     ensures gateway { λ r. ⌜ r .gateway ≡ emptyGateway 1 (storedKeys []) ⌝ }
     ensures answer { λ r. ⌜ r .answer ≡ SetupAnswer.Refused refusal ⌝ }

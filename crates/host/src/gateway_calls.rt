@@ -22,7 +22,7 @@ use results::gateway_calls::ReportResult;
 use results::outcome::NumberResult;
 use results::outcome::Outcome;
 
-// Setup: a fresh gateway of a key list and a cap, or on refusal the gateway without keys.
+// Setup: a fresh gateway of a key list and a cap, or on refusal a gateway without keys, cap 1.
 #[no_mangle]
 pub extern "C" fn sealwax_setup(gateway: &mut Gateway, list: &[u8], cap: u64) -> NumberResult
     ensures { λ r. ⌜ (now (gateway .exit) ≡ freshGateway (now (list .entry)) cap)

@@ -27,6 +27,7 @@ skipping-edges =
     record {
       inFront = refl;
       counted = refl;
+      idTwice = refl;
       tooShort = refl;
       cut = refl;
       sixteen = refl;

@@ -53,6 +53,8 @@ pub record SkippingEdges : Type 0 where
   pub counted :
       map checked ((unknownKem ++ edgeList) ∷ (edgeList ++ unknownKem) ∷ (unknownKem ++ edgeList ++ unknownKem) ∷ unknownKem ∷ [])
       ≡ Checked.Good 1 1 ∷ Checked.Good 1 1 ∷ Checked.Good 1 2 ∷ Checked.Good 0 1 ∷ []
+  -- a key id twice, with one that is skipped between them
+  pub idTwice : checked (edgeList ++ unknownKem ++ edgeList) ≡ Checked.Refused (badList 48)
   -- of 2 bytes, and cut by one byte
   pub tooShort : checked (edgeList ++ hex "00020700") ≡ Checked.Refused (badList 43)
   pub cut : checked (edgeList ++ hex "00030700") ≡ Checked.Refused (badList 43)

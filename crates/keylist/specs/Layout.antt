@@ -90,7 +90,7 @@ isWhole bytes at = leb (nextStart bytes at) (length bytes)
 unfoldable pub isSkipped : List ℕ → ℕ → Bool
 isSkipped bytes at = isWhole bytes at and leb 3 (lengthAt bytes at) and not (knownKem (kemAt bytes at))
 
--- the layout's rules for one configuration that is not: it lies whole in the list, its KEM is known, L = 5 + Npk + S, and S
+-- the layout's rules for one configuration that is not skipped: it lies whole in the list, its KEM is known, L = 5 + Npk + S, and S
 unfoldable pub layoutHolds : List ℕ → ℕ → Bool
 layoutHolds bytes at =
     isWhole bytes at

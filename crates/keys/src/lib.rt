@@ -334,7 +334,7 @@ fn read_good(list: &[u8]) -> Keys
     keys
 }
 
-// The key of the configuration at an offset. It keeps the layout's rules, as all of a good list do.
+// The key of the configuration at an offset. It keeps the layout's rules, as all that are read do.
 fn key_at(list: &[u8], at: usize) -> KeyState
     requires { ⌜ layoutHolds (now list) at ≡ true ⌝ }
     ensures { λ r. ⌜ r ≡ storedKey (configurationAt (now (list .entry)) at) ⌝ }

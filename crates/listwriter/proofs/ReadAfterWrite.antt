@@ -20,8 +20,8 @@ use Rattle.algorithms.specs.Table.{table, rowOf}
 use Rattle.algorithms.specs.Sizes.{knownKem, publicKeyLength}
 use Rattle.algorithms.proofs.Stated.{size-bounds}
 use Rattle.keylist.specs.Layout.{Configuration, good, bad, lengthAt, keyIdAt, kemAt, keyStart, keyEnd, pairBytesAt, pairsAt, pairsStart, configurationAt, layoutHolds, parseFrom, parse, mostConfigurations, Result}
-use Rattle.keylist.proofs.LayoutLaws.{both}
-use Rattle.keylist.proofs.Parsing.{no-refusal, parse-end, parse-more}
+use Rattle.keylist.proofs.LayoutLaws.{both, held-not-skipped, holds}
+use Rattle.keylist.proofs.Parsing.{no-refusal, parse-end, parse-more, skips-end, skips-none, skipsFrom}
 use Rattle.listwriter.specs.Writer.{Fields, noneLeft, wordsBytes}
 use Rattle.listwriter.specs.Helpers.{firstHolds}
 use Rattle.listwriter.specs.Stated.{pairNumbers, idsOf, asFields, ReadAfterWrite}
@@ -70,7 +70,7 @@ unknown-zero = refl
 -- reading from an offset gives key ids and fields back
 abbrev ReadBack : ℕ → List ℕ → List ℕ → ℕ → List ℕ → Fields → Type 0
 ReadBack more taken bytes at ids f =
-    (cs : List Configuration) × (parseFrom more taken bytes at ≡ good cs) × (idsOf cs ≡ ids) × (asFields cs ≡ f)
+    (cs : List Configuration) × (parseFrom more taken bytes at ≡ good cs) × (skipsFrom more bytes at ≡ 0) × (idsOf cs ≡ ids) × (asFields cs ≡ f)
 
 module _ (bytes : List ℕ) (at id : ℕ) (f : Fields) (rest : List ℕ) (says : First f) (there : drop at bytes ≡ firstLaid id f rest) where
   size-read : lengthAt bytes at ≡ firstLength f
@@ -136,9 +136,10 @@ module _ (bytes : List ℕ) (at id : ℕ) (f : Fields) (rest : List ℕ) (says :
   read-first : (more : ℕ) (taken ids : List ℕ) → not (among taken id) ≡ true
       → ReadBack more (taken ++ id ∷ []) bytes (at + 2 + firstLength f) ids (behindFirst f) → ReadBack (suc more) taken bytes at (id ∷ ids) f
   unfolding configurationAt
-  read-first more taken ids fresh (cs, parsed, sameIds, sameFields) = (
+  read-first more taken ids fresh (cs, parsed, none, sameIds, sameFields) = (
     configurationAt bytes at ∷ cs,
     rw (parse-more more taken bytes at (rw (layout-read, id-read) fresh), id-read, size-read, parsed),
+    skips-none more bytes at (omega (arith, inside)) (held-not-skipped bytes at (holds bytes at layout-read)) ∙ rw size-read none,
     ap₂ (λ i is. i ∷ is) id-read sameIds,
     fields-read cs sameFields,
   )
@@ -170,7 +171,8 @@ read-from : (more : ℕ) (taken bytes : List ℕ) (at : ℕ) (ids : List ℕ) (f
 unfolding encodeFrom configurationAt
 read-from more taken bytes at [] f e =
     let (none, nothing) = end-given (noneLeft f) at e in
-    ([], parse-end more taken bytes at (omega (arith, rw length-drop at (ap length nothing))), refl, none-left f none)
+    let end : length bytes ≤ at = omega (arith, rw length-drop at (ap length nothing)) in
+    ([], parse-end more taken bytes at end, skips-end more bytes at end, refl, none-left f none)
 read-from zero taken bytes at (id ∷ ids) f e = no-refusal e
 read-from (suc more) taken bytes at (id ∷ ids) f e =
     let encodedRest = encodeFrom more (taken ++ id ∷ []) (at + 2 + firstLength f) ids (behindFirst f) in
@@ -185,7 +187,7 @@ pub read-after-write : ReadAfterWrite
 unfolding walk parse
 read-after-write [] f bytes e = no-refusal (sym (encode-is-walk [] f) ∙ e)
 read-after-write (id ∷ ids) f [] e =
-    let (cs, parsed, sameIds, _) = read-from mostConfigurations [] [] 0 (id ∷ ids) f (sym (encode-is-walk (id ∷ ids) f) ∙ e) in
+    let (cs, parsed, _, sameIds, _) = read-from mostConfigurations [] [] 0 (id ∷ ids) f (sym (encode-is-walk (id ∷ ids) f) ∙ e) in
     let nothing : [] ≡ cs = cc (parse-end mostConfigurations [] [] 0 (omega arith)) in
     absurd (omega (arith, ap length (rw (← nothing) at sameIds)))
 read-after-write (id ∷ ids) f (b ∷ bytes) e = read-from mostConfigurations [] (b ∷ bytes) 0 (id ∷ ids) f (sym (encode-is-walk (id ∷ ids) f) ∙ e)

@@ -26,15 +26,15 @@ asFields cs =
     (map (λ c. length (c .publicKey)) cs) (flatMap (λ c. c .publicKey) cs)
     (map (λ c. length (pairNumbers (c .pairs))) cs) (flatMap (λ c. pairNumbers (c .pairs)) cs)
 
--- "reading by the layout rules gives them back": every field that was written
-abbrev pub ReadAfterWrite : Type 0
-ReadAfterWrite =
-    (ids : List ℕ) (f : Fields) (bytes : List ℕ) → encode ids f ≡ good bytes
-    → (cs : List Configuration) × (parse bytes ≡ good cs) × (idsOf cs ≡ ids) × (asFields cs ≡ f)
-
 -- 02, A1: a list "without skipped entries"
 abbrev pub NoneSkipped : List ℕ → Type 0
 NoneSkipped bytes = skippedIn bytes ≡ 0
+
+-- "reading by the layout rules gives them back": every field that was written, and nothing that would be skipped
+abbrev pub ReadAfterWrite : Type 0
+ReadAfterWrite =
+    (ids : List ℕ) (f : Fields) (bytes : List ℕ) → encode ids f ≡ good bytes
+    → (cs : List Configuration) × (parse bytes ≡ good cs) × NoneSkipped bytes × (idsOf cs ≡ ids) × (asFields cs ≡ f)
 
 -- "writing what was read gives the same bytes"
 abbrev pub WriteAfterRead : Type 0

@@ -86,7 +86,7 @@ pub struct RetireDone {
     pub result: Outcome,
 }
 
-// Setup: a fresh gateway of a key list and a cap, and the number of keys; on refusal the gateway without keys.
+// Setup: a fresh gateway of a key list and a cap, and the number of keys; on refusal a gateway without keys, cap 1.
 pub fn setup(list: &[u8], cap: u64) -> SetupDone
     ensures { λ r. ⌜ (r .gateway ≡ freshGateway (now (list .entry)) cap)
         × (r .result ≡ setupResult (setupAnswer (setup (now (list .entry)) cap))) ⌝ }

@@ -69,7 +69,8 @@ pub struct Gateway {
 
 impl Gateway {
     /// Makes a fresh gateway of a key list and a cap, the uses allowed per key, 1 to 1,000,000,000.
-    /// A skipped configuration ([`crate::KeyList::check`] says how many there are) makes no key.
+    /// A skipped configuration ([`crate::KeyList::check`] says how many there are) makes no key;
+    /// where all are skipped the gateway has none and refuses every request.
     /// Refusals: 15, 17.
     pub fn setup(list: &[u8], cap: u64) -> Result<Gateway, Refusal> {
         let (memory, result) = raw::setup(list, cap);

@@ -29,8 +29,9 @@ pub struct Configuration<'c> {
 /// A key list (RFC 9458, 3), the media type `application/ohttp-keys`, over the bytes that hold it.
 ///
 /// Every call reads the whole list first, and a list with one bad configuration is refused whole:
-/// 15, with the place of the first bad one. A configuration with an unknown KEM is not bad but
-/// skipped: the calls go on as if it were not there, and [`KeyList::check`] says how many there are.
+/// 15, with the place of the first bad one. A configuration of at least 3 bytes that lies whole in
+/// the list and has an unknown KEM is skipped: its inside is not read and its key id not taken, but
+/// it counts towards the sixteen. [`KeyList::check`] says how many there are.
 ///
 /// ```
 /// use sealwax::{Checked, Configuration, KeyList, Pair};

@@ -19,8 +19,8 @@ pub const LONGEST_HEAD: usize = 140;
 pub const EXPORTER_CONTEXT_LENGTH: usize = 22;
 /// The length of the longest key list that is written.
 pub const LONGEST_LIST: usize = 3264;
-/// The length of the longest key list that may be good: sixteen configurations, all but those that
-/// are read as long as two length bytes can say.
+/// The length of the longest key list that may be good: sixteen configurations that are skipped,
+/// each as long as its two length bytes can say.
 pub const LONGEST_LIST_READ: usize = 16 * (2 + 65_535);
 /// The most keys of a gateway.
 pub const MOST_KEYS: usize = 16;
@@ -275,7 +275,7 @@ extern "C" {
     pub fn sealwax_sizes() -> SizesResult;
 }
 
-/// A fresh gateway, on refusal the one without keys.
+/// A fresh gateway, on refusal one without keys, cap 1.
 pub fn setup(list: &[u8], cap: u64) -> (Box<Gateway>, SetupResult) {
     let mut gateway = Box::new(Gateway {
         opaque: [MaybeUninit::new(0); GATEWAY_SIZE / 8],

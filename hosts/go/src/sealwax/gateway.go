@@ -13,7 +13,8 @@ type Gateway struct {
 	state C.sealwax_gateway
 }
 
-// Setup makes a fresh gateway of a key list and a cap, the uses allowed per key. A configuration that Check counts as skipped makes no key.
+// Setup makes a fresh gateway of a key list and a cap, the uses allowed per key. A configuration that
+// Check counts as skipped makes no key; where all are skipped the gateway has none and refuses every request.
 func Setup(list []byte, keyCap uint64) (*Gateway, error) {
 	gateway := new(Gateway)
 	result := C.sealwax_setup(&gateway.state, (*C.uint8_t)(first(list)), C.size_t(len(list)), C.uint64_t(keyCap))

@@ -5,14 +5,15 @@ package sealwax
 */
 import "C"
 
-// Check says how many configurations of a key list were read and how many were skipped, since their KEM is unknown, or why the list is bad.
+// Check says how many configurations of a key list were read and how many were skipped, or why the list is bad. Skipped is one of at least 3
+// bytes that lies whole in the list and has an unknown KEM: its inside is not read and its key id not taken, but it counts towards the sixteen.
 // A bad list is discarded whole (RFC 9458, 3.2).
 func Check(list []byte) (configurations, skipped int, err error) {
 	result := C.sealwax_check((*C.uint8_t)(first(list)), C.size_t(len(list)))
 	return int(result.configurations), int(result.skipped), refused(result.outcome)
 }
 
-// PublicKey hands back a key's public key as a part of its list.
+// PublicKey hands back a key's public key as a part of its list. A configuration that is skipped has none.
 func PublicKey(list []byte, id KeyID) ([]byte, error) {
 	result := C.sealwax_key((*C.uint8_t)(first(list)), C.size_t(len(list)), C.uint8_t(id))
 	if err := refused(result.outcome); err != nil {

@@ -126,9 +126,19 @@ func (c *Client) keyList(ctx context.Context, outdated []byte) ([]byte, error) {
 	return content, nil
 }
 
+// forget drops a list that has nothing which the client can use, so that the next reading fetches one that may have.
+func (c *Client) forget(list []byte) {
+	c.lock.Lock()
+	defer c.lock.Unlock()
+	if bytes.Equal(c.list, list) {
+		c.list = nil
+	}
+}
+
 func (c *Client) try(ctx context.Context, list, reading []byte) (*Exchange, error) {
 	choice, err := sealwax.Choose(list, c.KEMs, c.Pairs)
 	if err != nil {
+		c.forget(list)
 		return nil, err
 	}
 	sealed, sent, err := ohttp.Seal(choice, reading)

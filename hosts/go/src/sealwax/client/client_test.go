@@ -298,16 +298,69 @@ func TestSkipped(t *testing.T) {
 	}
 }
 
-// Where all are skipped, no configuration can be used; the log says why.
+// Where all are skipped, no configuration can be used; the log says why. The list is not kept: when the maker mends it, readings go through.
 func TestAllSkipped(t *testing.T) {
 	var lines bytes.Buffer
-	_, c := serve(t, around(func([]byte) []byte { return append(unknown(0), unknown(40)...) }))
+	var count counter
+	mended := false
+	_, c := serve(t, func(next http.Handler) http.Handler {
+		return count.around(around(func(list []byte) []byte {
+			if mended {
+				return list
+			}
+			return append(unknown(0), unknown(40)...)
+		})(next))
+	})
 	c.Log = log.New(&lines, "", 0)
 	if _, err := c.Send(context.Background(), nil); !sealwax.IsRefusal(err, sealwax.NoUsableConfiguration) {
 		t.Errorf("%v", err)
 	}
 	if lines.String() != "key list: 2 of 2 configurations skipped, with a KEM that is unknown here\n" {
 		t.Errorf("%q", lines.String())
+	}
+	count.want(t, 1, 0)
+	mended = true
+	send(t, c)
+	send(t, c)
+	count.want(t, 2, 2)
+}
+
+// The longest list that may be good is read whole; of one that does not end, no more is read than shows that it is bad.
+func TestLongestList(t *testing.T) {
+	longest := func(list []byte) []byte {
+		for i := 2; i < sealwax.MostKeys; i++ {
+			list = append(list, unknown(65535-3)...)
+		}
+		return list
+	}
+	var lines bytes.Buffer
+	_, c := serve(t, around(longest))
+	c.Log = log.New(&lines, "", 0)
+	send(t, c)
+	if lines.String() != "key list: 14 of 16 configurations skipped, with a KEM that is unknown here\n" {
+		t.Errorf("%q", lines.String())
+	}
+
+	const most = 1 << 10 // 64 MiB
+	ended := make(chan int, 1)
+	endless := httptest.NewServer(http.HandlerFunc(func(w http.ResponseWriter, r *http.Request) {
+		w.Header().Set("Content-Type", ohttp.KeysType)
+		written := 0
+		for written < most {
+			if _, err := w.Write(unknown(65535 - 3)); err != nil {
+				break
+			}
+			written++
+		}
+		ended <- written
+	}))
+	defer endless.Close()
+	c = New(endless.URL, endless.URL)
+	if _, err := c.Send(context.Background(), nil); !sealwax.IsRefusal(err, sealwax.BadKeyList) {
+		t.Errorf("%v", err)
+	}
+	if written := <-ended; written == most {
+		t.Error("all of it was read")
 	}
 }
 
