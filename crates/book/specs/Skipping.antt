@@ -33,7 +33,7 @@ pub record UnknownKem : Type 0 where
   pub inside : List ℕ
   pub unknown : knownKem kem ≡ false
 
--- its bytes, with its length in front: at least 3
+-- its bytes: L, which is at least 3, key id, KEM, and what stands behind them
 abbrev pub bytesOf : UnknownKem → List ℕ
 bytesOf c = wordBytes (3 + length (c .inside)) ++ c .keyId ∷ (wordBytes (c .kem) ++ c .inside)
 
