@@ -20,6 +20,9 @@ Inv-loop list from at₀ more₀ at more = firstRead list from ≡ readFrom more
 abbrev μ-loop : tie.MeasureT-loop
 μ-loop list from at₀ more₀ at more = more
 
+loop-holds : tie.Need-loop-holds Inv-loop μ-loop
+loop-holds c = refl
+
 -- the configuration at the loop's offset, as the code has tested it
 skips : (c : tie.Else1 Inv-loop μ-loop) → isSkipped (c .before .before .before .before .before .args .list .now) (c .before .before .before .loop .at) ≡ true
 skips c = sym (c .before .is-skipped .ensures) ∙ not-false _ (c .if1 .left)
@@ -42,5 +45,5 @@ returns-2 c =
     sym (rw none at (c .before .loop .inv))
 
 pub first-read-spec : {M : Type 1} → statement M
-first-read-spec = tie.close (tie.spec Inv-loop μ-loop (λ c. refl) (λ c κs. search needs) returns
+first-read-spec = tie.close (tie.spec Inv-loop μ-loop loop-holds (λ c κs. search needs) returns
     (λ c κs. omega (arith, skipped _ _ (skips c) .whole)) (λ c. search needs) (λ c. search needs) loop-again returns-2)
