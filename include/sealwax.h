@@ -264,7 +264,7 @@ size_t sealwax_find(sealwax_gateway *gateway, uint64_t ticket, uint64_t near);
  */
 sealwax_check_result sealwax_check(const uint8_t *list, size_t list_length);
 
-/* Where the public key of a key id lies in a list. Refusals: 15; 4, also for the id of a configuration that is skipped. */
+/* Where the public key of a key id lies in a list. Refusals: 15; 4, also where only a configuration that is skipped has the id. */
 sealwax_key_result sealwax_key(const uint8_t *list, size_t list_length, uint8_t key_id);
 
 /*
