@@ -50,7 +50,7 @@ extern "C" {
 /* The most keys of a gateway. */
 #define SEALWAX_MOST_KEYS 16
 
-/* Refusal numbers. Number 10 is kept free. */
+/* Refusal numbers. Number 10 is kept free, and 15 is no longer given: 18 to 22 say what is wrong with a key list, and where. */
 enum sealwax_refusal {
     SEALWAX_ACCEPTED = 0,
     SEALWAX_TOO_SHORT = 1,               /* request or response too short */
@@ -66,9 +66,13 @@ enum sealwax_refusal {
     SEALWAX_STEP_NOT_ALLOWED = 12,       /* step not allowed in this state */
     SEALWAX_WRONG_LENGTH = 13,           /* opened, enc, nonce, plain or pair-list length wrong */
     SEALWAX_NO_ROOM = 14,                /* lent buffer too small */
-    SEALWAX_BAD_KEY_LIST = 15,           /* key list bad; the place is the offset of the bad configuration's length */
     SEALWAX_NO_USABLE_CONFIGURATION = 16, /* no usable configuration */
-    SEALWAX_CAP_OUT_OF_RANGE = 17        /* cap outside 1 to 1,000,000,000 */
+    SEALWAX_CAP_OUT_OF_RANGE = 17,       /* cap outside 1 to 1,000,000,000 */
+    SEALWAX_LIST_TRUNCATED = 18,         /* a configuration's length, or the bytes it announces, run past the list's end; or none at all */
+    SEALWAX_LENGTH_MISMATCH = 19,        /* a configuration's length and contents disagree */
+    SEALWAX_BAD_PAIR_LENGTH = 20,        /* pair bytes not a multiple of 4, or 0, or above 64 */
+    SEALWAX_DUPLICATE_KEY_ID = 21,       /* key id twice */
+    SEALWAX_TOO_MANY_CONFIGURATIONS = 22 /* more than sixteen configurations */
 };
 
 /* Problem types of an unprotected answer (RFC 9458, 5.3). */
@@ -88,14 +92,17 @@ typedef struct sealwax_gateway {
 
 /*
  * What every answer begins with.
- *   number   the refusal number, 0 where the call is accepted
- *   place    the place of refusal 15, else 0
- *   status   the HTTP status to send: the unprotected one of a refused admit (400, 413, 500, 503) or of a failed opening (422), the
- *            outer one of a sealed response (200); 0 where nothing is sent
- *   problem  the problem type of an unprotected answer
+ *   number     the refusal number, 0 where the call is accepted
+ *   has_place  whether the refusal has a place. Ask this and not the number: the list writer's 3 has one, and admit's and head's have none
+ *   place      the offset of the first byte of the field at fault, in the list that was read or would be written: the configuration's length
+ *              for 18, 19 and 22, its pair length for 20, its key id for 21, its KEM for the list writer's 3; 0 where there is none
+ *   status     the HTTP status to send: the unprotected one of a refused admit (400, 413, 500, 503) or of a failed opening (422), the
+ *              outer one of a sealed response (200); 0 where nothing is sent
+ *   problem    the problem type of an unprotected answer
  */
 typedef struct sealwax_outcome {
     uint8_t number;
+    bool has_place;
     size_t place;
     uint16_t status;
     uint8_t problem;
@@ -210,7 +217,7 @@ typedef struct sealwax_sizes_result {
 
 /*
  * Makes a fresh gateway of a key list and a cap, the uses allowed per key, 1 to 1,000,000,000. A configuration that is skipped (see
- * sealwax_check) makes no key; where all are skipped the gateway has none and refuses every request. Refusals: 15, 17; the gateway is then
+ * sealwax_check) makes no key; where all are skipped the gateway has none and refuses every request. Refusals: 18 to 22, 17; the gateway is then
  * one without keys, too. What the memory held before is gone either way: to keep a gateway that is in use, set
  * up another one and change over where that was accepted.
  */
@@ -260,17 +267,24 @@ size_t sealwax_find(sealwax_gateway *gateway, uint64_t ticket, uint64_t near);
 /*
  * Whether a key list is good, and how many of its configurations were read and how many skipped. A configuration of at least 3 bytes that
  * lies whole in the list and has an unknown KEM is skipped: its inside is not read and its key id not taken, but it counts towards the
- * sixteen. A host may log how many, so that somebody sees that a list has a KEM which this release does not know. Refusal: 15.
+ * sixteen. A host may log how many, so that somebody sees that a list has a KEM which this release does not know. Of a bad list the first
+ * bad configuration counts, with its first fault in the order 22, 18, 20, 19, 21. Where it ends before its pair length can be read, it is 19.
+ * What stands at the place is then: for 18 a length that announces more bytes than follow, or that does not stand there whole; for 19 a length
+ * that is not 5, the public key's and the pairs' bytes; for 20 a pair length that breaks its rule; for 21 a key id that an earlier
+ * configuration has; for 22 the length of the seventeenth. Refusals: 22, 18, 20, 19, 21.
  */
 sealwax_check_result sealwax_check(const uint8_t *list, size_t list_length);
 
-/* Where the public key of a key id lies in a list. Refusals: 15; 4, also where only a configuration that is skipped has the id. */
+/* Where the public key of a key id lies in a list. Refusals: 18 to 22; 4, also where only a configuration that is skipped has the id. */
 sealwax_key_result sealwax_key(const uint8_t *list, size_t list_length, uint8_t key_id);
 
 /*
  * Writes configurations given as fields at the front of a buffer: key ids, KEMs and public key lengths, one for each; the key bytes of
- * all; how many pair numbers each has; the pair numbers of all, KDF and AEAD by turns. Refusals: 15 with the offset where the bad
- * configuration would start, 14.
+ * all; how many pair numbers each has; the pair numbers of all, KDF and AEAD by turns. A KEM, a
+ * length or a count that is not there counts as 0. Refusals: 18 where no key id is given; then of each configuration in turn 22, 3 (unknown
+ * KEM), 19 (public key of the wrong length, or key bytes that are not there), 20 (pair bytes against their rule, or pair numbers that are
+ * not there), 21; 19 for fields that are left over, where one more configuration would start; 14. The places are those of the fields in the
+ * list that would be written.
  */
 sealwax_write_result sealwax_write(const uint8_t *key_ids, size_t key_ids_length, const uint16_t *kems, size_t kems_length,
                                    const size_t *key_lengths, size_t key_lengths_length, const uint8_t *keys, size_t keys_length,
@@ -281,7 +295,7 @@ sealwax_write_result sealwax_write(const uint8_t *key_ids, size_t key_ids_length
 
 /*
  * The first configuration of a list, and of its pairs the first, that the client can use: it knows these KEMs and these pairs, KDF and
- * AEAD by turns. Refusals: 15, 13, 16.
+ * AEAD by turns. Refusals: 18 to 22, 13, 16.
  */
 sealwax_choose_result sealwax_choose(const uint8_t *list, size_t list_length, const uint16_t *kems, size_t kems_length,
                                      const uint16_t *pairs, size_t pairs_length);

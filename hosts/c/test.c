@@ -44,23 +44,73 @@ static int all_are(const uint8_t *bytes, size_t length, uint8_t value) {
     return 1;
 }
 
+/* The refusal of this number, with this place. */
+static int is_at(sealwax_outcome outcome, uint8_t number, size_t place) {
+    return outcome.number == number && outcome.has_place && outcome.place == place;
+}
+
 static void setups(void) {
     uint8_t twice[86];
     memcpy(twice, list, 43);
     memcpy(twice + 43, list, 43);
     sealwax_setup_result answer = sealwax_setup(&gateway, twice, sizeof twice, 1);
-    EXPECT(answer.outcome.number == SEALWAX_BAD_KEY_LIST && answer.outcome.place == 43 && answer.outcome.status == 0);
-    EXPECT(sealwax_setup(&gateway, NULL, 0, 1).outcome.number == SEALWAX_BAD_KEY_LIST);
+    EXPECT(is_at(answer.outcome, SEALWAX_DUPLICATE_KEY_ID, 45) && answer.outcome.status == 0);
+    EXPECT(is_at(sealwax_setup(&gateway, NULL, 0, 1).outcome, SEALWAX_LIST_TRUNCATED, 0));
     EXPECT(sealwax_setup(&gateway, list, 43, 0).outcome.number == SEALWAX_CAP_OUT_OF_RANGE);
     EXPECT(sealwax_setup(&gateway, list, 43, UINT64_MAX).outcome.number == SEALWAX_CAP_OUT_OF_RANGE);
     sealwax_report_result report = sealwax_report(&gateway);
     EXPECT(report.outcome.number == 0 && report.key_count == 0 && report.last_ticket == 0 && report.pending == 0);
     fresh(1);
     EXPECT(sealwax_check(list, 43).configurations == 1 && sealwax_check(list, 43).skipped == 0);
-    EXPECT(sealwax_check(list, 42).outcome.number == SEALWAX_BAD_KEY_LIST);
     sealwax_key_result key = sealwax_key(list, 43, 7);
     EXPECT(key.start == 5 && key.end == 37);
-    EXPECT(sealwax_key(list, 43, 8).outcome.number == SEALWAX_NO_SUCH_KEY);
+    sealwax_outcome none = sealwax_key(list, 43, 8).outcome;
+    EXPECT(none.number == SEALWAX_NO_SUCH_KEY && !none.has_place && none.place == 0);
+}
+
+/* 02, A2: the list damaged in each of the five ways, and what every reader of lists then answers. */
+static void damaged(const uint8_t *bytes, size_t length, uint8_t number, size_t place) {
+    uint16_t kem = 0x0020, pair[2] = {1, 3};
+    EXPECT(is_at(sealwax_check(bytes, length).outcome, number, place));
+    EXPECT(is_at(sealwax_key(bytes, length, 7).outcome, number, place));
+    EXPECT(is_at(sealwax_choose(bytes, length, &kem, 1, pair, 2).outcome, number, place));
+    EXPECT(is_at(sealwax_setup(&gateway, bytes, length, 1).outcome, number, place));
+}
+
+static void damaged_lists(void) {
+    static uint8_t bytes[17 * 43];
+    for (size_t at = 0; at < 17; at++) {
+        memcpy(bytes + at * 43, list, 43);
+        bytes[at * 43 + 2] = (uint8_t)at;
+    }
+    EXPECT(sealwax_check(bytes, 16 * 43).configurations == 16);
+    damaged(bytes, 17 * 43, SEALWAX_TOO_MANY_CONFIGURATIONS, 16 * 43);
+    damaged(bytes, 16 * 43 + 1, SEALWAX_TOO_MANY_CONFIGURATIONS, 16 * 43);
+    damaged(bytes, 44, SEALWAX_LIST_TRUNCATED, 43);
+    damaged(bytes, 85, SEALWAX_LIST_TRUNCATED, 43);
+    bytes[43 + 38] = 6; /* the second configuration's pair length, tested before its length */
+    damaged(bytes, 86, SEALWAX_BAD_PAIR_LENGTH, 43 + 37);
+    bytes[43 + 38] = 8;
+    damaged(bytes, 86, SEALWAX_LENGTH_MISMATCH, 43);
+    bytes[43 + 38] = 4;
+    bytes[43 + 2] = 0;
+    damaged(bytes, 86, SEALWAX_DUPLICATE_KEY_ID, 45);
+}
+
+/* 02, A2: the list writer's 3 has a place, and the other calls' have none. */
+static void placed_or_not(void) {
+    uint8_t id = 7, key[32] = {0}, buffer[50], any_enc[32] = {0}, head[SEALWAX_LONGEST_HEAD], info[SEALWAX_INFO_LENGTH];
+    uint16_t kem = 0x0030, pair[2] = {1, 3};
+    size_t key_length = 32, pair_count = 2;
+    EXPECT(is_at(sealwax_write(&id, 1, &kem, 1, &key_length, 1, key, 32, &pair_count, 1, pair, 2, buffer, 50).outcome, SEALWAX_UNKNOWN_KEM, 3));
+    sealwax_outcome without = sealwax_head(7, kem, 1, 3, any_enc, 32, head, sizeof head, info, sizeof info).outcome;
+    EXPECT(without.number == SEALWAX_UNKNOWN_KEM && !without.has_place && without.place == 0);
+    fresh(1);
+    request[1] = 0x00;
+    request[2] = 0x30;
+    without = admit(55).outcome;
+    request[2] = 0x20;
+    EXPECT(without.number == SEALWAX_UNKNOWN_KEM && !without.has_place && without.place == 0);
 }
 
 static void admissions(void) {
@@ -198,7 +248,7 @@ static void longest_list(void) {
     ids[15] = 0;
     result = sealwax_write(ids, 16, all_kems, 16, key_lengths, 16, keys, sizeof keys, pair_counts, 16, all_pairs, 16 * 32, buffer,
                            sizeof buffer);
-    EXPECT(result.outcome.number == SEALWAX_BAD_KEY_LIST && result.outcome.place == 15 * 204);
+    EXPECT(is_at(result.outcome, SEALWAX_DUPLICATE_KEY_ID, 15 * 204 + 2));
 }
 
 /* 02, A1: a configuration of an unknown KEM, here of 3 bytes and with the key id of the one that is read, is skipped. */
@@ -231,11 +281,13 @@ static void skipped(void) {
     EXPECT(check.outcome.number == 0 && check.configurations == 0 && check.skipped == 16);
     memcpy(longest + SEALWAX_LONGEST_LIST_READ, unknown, 5);
     check = sealwax_check(longest, sizeof longest);
-    EXPECT(check.outcome.number == SEALWAX_BAD_KEY_LIST && check.outcome.place == SEALWAX_LONGEST_LIST_READ && check.skipped == 0);
+    EXPECT(is_at(check.outcome, SEALWAX_TOO_MANY_CONFIGURATIONS, SEALWAX_LONGEST_LIST_READ) && check.skipped == 0);
 }
 
 int main(void) {
     setups();
+    damaged_lists();
+    placed_or_not();
     skipped();
     admissions();
     steps();

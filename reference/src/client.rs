@@ -18,7 +18,7 @@ pub struct Chosen {
     pub public_key: Range<usize>,
 }
 
-/// Choose. Order: 15, 13 (pair list of odd length), 16.
+/// Choose. Order: the list's, 13 (pair list of odd length), 16.
 pub fn choose(list: &[u8], kems: &[u16], pairs: &[u16]) -> Result<Chosen, Refusal> {
     let configurations = read_list(list)?.configurations;
     if pairs.len() % 2 != 0 {
@@ -115,7 +115,7 @@ mod tests {
     use crate::answer::hex;
     use crate::call::read_bytes;
     use crate::key_list::tests::{configuration, edge_list, unknown};
-    use crate::refusal::bad_list;
+    use crate::refusal::refusal_at;
 
     fn two_configurations() -> Vec<u8> {
         let first = configuration(1, 0x0010, 65, &[0, 9, 0, 1, 0, 1, 0, 1]);
@@ -141,7 +141,7 @@ mod tests {
     #[test]
     fn choose_refuses_in_order() {
         let list = two_configurations();
-        assert_eq!(choose(&[], &[], &[1]), Err(bad_list(0)));
+        assert_eq!(choose(&[], &[], &[1]), Err(refusal_at(18, 0)));
         assert_eq!(choose(&list, &[], &[1]), Err(refusal(13)));
         assert_eq!(choose(&list, &[], &[1, 1]), Err(refusal(16)));
         assert_eq!(choose(&list, &[0x20], &[]), Err(refusal(16)));
@@ -163,7 +163,7 @@ mod tests {
         assert_eq!(choose(&list, &[], &[]), Err(refusal(16)));
         assert_eq!(choose(&list, &kems, &[1, 3, 1]), Err(refusal(13)));
         let cut = &list[..list.len() - 1];
-        assert_eq!(choose(cut, &kems, &[1, 3, 1]), Err(bad_list(43)));
+        assert_eq!(choose(cut, &kems, &[1, 3, 1]), Err(refusal_at(18, 43)));
     }
 
     #[test]

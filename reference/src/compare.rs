@@ -254,7 +254,7 @@ mod tests {
     fn the_prefix_starts_at_its_setup() {
         let calls = b"setup 1 -\nreport\n# comment\nsetup 0 -\nreport\n\nabandon 1\nreport\n";
         let report = "report last=0 pending=0 keys=-";
-        let list = "refused 15 at 0";
+        let list = "refused 18 at 0";
         let answers = [list, report, list, report, "abandoned", report].map(str::to_string);
         let difference = compare_with(calls, &answers).err().unwrap();
         let lines: Vec<&[u8]> = vec![b"setup 0 -", b"report", b"", b"abandon 1"];
@@ -266,7 +266,7 @@ mod tests {
     #[test]
     fn the_prefix_starts_with_its_engine() {
         let calls = b"engine plain\nsetup 1 -\nengine fast\nengine plain\nsetup 0 -\nabandon 1\n";
-        let list = "refused 15 at 0";
+        let list = "refused 18 at 0";
         let (plain, fast) = ("engine plain", "engine fast");
         let answers = [plain, list, fast, plain, list, "abandoned"].map(str::to_string);
         let difference = compare_with(calls, &answers).err().unwrap();

@@ -234,7 +234,7 @@ mod tests {
     use crate::answer::hex;
     use crate::call::read_bytes;
     use crate::key_list::tests::{configuration, edge_list, unknown};
-    use crate::refusal::bad_list;
+    use crate::refusal::refusal_at;
     use crate::request::tests::request;
 
     fn edge_gateway(cap: u64) -> Gateway {
@@ -265,7 +265,7 @@ mod tests {
             assert_eq!(answer, Err(refusal(17)));
             assert_eq!((gateway.cap, gateway.last_ticket), (1, 0));
             assert!(gateway.keys.is_empty());
-            assert_eq!(Gateway::setup(cap, &[]).1, Err(bad_list(0)));
+            assert_eq!(Gateway::setup(cap, &[]).1, Err(refusal_at(18, 0)));
         }
         assert_eq!(Gateway::setup(1, &edge_list()).1, Ok(1));
         assert_eq!(Gateway::setup(1_000_000_000, &edge_list()).1, Ok(1));
@@ -293,13 +293,13 @@ mod tests {
             assert_eq!((report.last_ticket, report.pending), (0, 0));
             assert!(report.keys.is_empty());
         }
-        // 15 before 17, as in any list.
+        // The list before 17, as in any list.
         for cap in [0, 1_000_000_001] {
             let (gateway, answer) = Gateway::setup(cap, &list);
             assert_eq!(answer, Err(refusal(17)));
             assert_eq!(gateway.cap, 1);
             let cut = &list[..list.len() - 1];
-            assert_eq!(Gateway::setup(cap, cut).1, Err(bad_list(43)));
+            assert_eq!(Gateway::setup(cap, cut).1, Err(refusal_at(18, 43)));
         }
     }
 

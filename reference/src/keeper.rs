@@ -46,7 +46,7 @@ pub struct Report {
 
 /// Setup and the six calls of demand 3.
 pub trait Keeper: Sized {
-    /// The keeper that setup hands back and the number of its keys. Order: 15, 17.
+    /// The keeper that setup hands back and the number of its keys. Order: the list's, 17.
     fn setup(cap: u64, list: &[u8]) -> (Self, Result<usize, Refusal>);
     /// Order: 2, 1 (below 7), 3, 1 (shortest), 4, 5, 6, 7, 8, 9, 14.
     fn admit(&mut self, request: &[u8], buffer: &mut [u8]) -> Result<Admitted, Refusal>;

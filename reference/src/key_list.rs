@@ -1,7 +1,7 @@
-//! Key lists, read: 01, "Layouts", key list, and the key reader; 02, A1.
+//! Key lists, read: 01, "Layouts", key list, and the key reader; 02, A1 and A2.
 
 use crate::algorithms::{nenc, Pair};
-use crate::refusal::{bad_list, refusal, Refusal};
+use crate::refusal::{refusal, refusal_at, Refusal};
 use std::ops::Range;
 
 /// "House limits: 1 to 16 configurations".
@@ -10,6 +10,10 @@ pub const MOST_CONFIGURATIONS: usize = 16;
 const LONGEST_PAIRS: usize = 64;
 /// "length L (2 bytes)"
 pub const LENGTH_SIZE: usize = 2;
+/// "key id (1), KEM (2), public key (Npk)": where they start, counted from the length's first byte.
+pub const ID_PLACE: usize = LENGTH_SIZE;
+pub const KEM_PLACE: usize = ID_PLACE + 1;
+pub const KEY_PLACE: usize = KEM_PLACE + 2;
 
 /// A good list.
 #[derive(Clone, Debug, Default, PartialEq, Eq)]
@@ -43,30 +47,28 @@ impl KeyList {
     }
 }
 
-/// The configurations of a list, or 15 at the first bad one.
+/// The configurations of a list, or what is wrong with the first bad one. Order: "22, 18, 20, 19,
+/// 21 for each configuration".
 pub fn read_list(list: &[u8]) -> Result<KeyList, Refusal> {
+    // "or no configuration at all"
     if list.is_empty() {
-        return Err(bad_list(0));
+        return Err(refusal_at(18, 0));
     }
     let mut read = KeyList::default();
     let mut start = 0;
     while start < list.len() {
-        let bad = bad_list(start);
-        // "a seventeenth is bad"
+        // "22 more than sixteen"
         if read.count() == MOST_CONFIGURATIONS {
-            return Err(bad);
+            return Err(refusal_at(22, start));
         }
-        let inside = inside_at(list, start).ok_or(bad)?;
-        let kem = kem_of(inside).ok_or(bad)?;
-        match nenc(kem) {
-            // "has an unknown KEM is now skipped, its inside unread"
+        // "18 the two length bytes or the L bytes they announce run past the list's end"
+        let inside = inside_at(list, start).ok_or_else(|| refusal_at(18, start))?;
+        match read_inside(inside, start)? {
             None => read.skipped += 1,
-            Some(npk) => {
-                let inside_start = start + LENGTH_SIZE;
-                let configuration = read_inside(inside, inside_start, kem, npk).ok_or(bad)?;
-                // "no key id twice"
+            Some(configuration) => {
+                // "21 key id twice"
                 if read.with_id(configuration.id).is_some() {
-                    return Err(bad);
+                    return Err(refusal_at(21, start + ID_PLACE));
                 }
                 read.configurations.push(configuration);
             }
@@ -87,21 +89,32 @@ pub fn kem_of(inside: &[u8]) -> Option<u16> {
     number_at(inside, 1)
 }
 
-/// A configuration of a known KEM, if its inside, which starts there in the list, keeps the
-/// layout.
-fn read_inside(inside: &[u8], start: usize, kem: u16, npk: usize) -> Option<Configuration> {
-    let pairs_length = usize::from(number_at(inside, 3 + npk)?);
-    let pairs = &inside[5 + npk..];
-    // "L = 5 + Npk + S"
-    if pairs.len() != pairs_length || !pairs_length_is_good(pairs_length) {
-        return None;
+/// The configuration whose length stands at `start`, from its inside; none where it is skipped.
+/// Order: 19 where it "ends before its pair length can be read", 20, 19.
+fn read_inside(inside: &[u8], start: usize) -> Result<Option<Configuration>, Refusal> {
+    let disagree = refusal_at(19, start);
+    let kem = kem_of(inside).ok_or(disagree)?;
+    let npk = match nenc(kem) {
+        Some(npk) => npk,
+        // "has an unknown KEM is now skipped, its inside unread"
+        None => return Ok(None),
+    };
+    let pairs_length = number_at(inside, 3 + npk).ok_or(disagree)?;
+    if !pairs_length_is_good(pairs_length.into()) {
+        return Err(refusal_at(20, start + KEY_PLACE + npk));
     }
-    Some(Configuration {
+    // "L = 5 + Npk + S"
+    let pairs = &inside[5 + npk..];
+    if pairs.len() != usize::from(pairs_length) {
+        return Err(disagree);
+    }
+    let key_start = start + KEY_PLACE;
+    Ok(Some(Configuration {
         id: inside[0],
         kem,
-        public_key: start + 3..start + 3 + npk,
+        public_key: key_start..key_start + npk,
         pairs: pairs.chunks(4).map(read_pair).collect(),
-    })
+    }))
 }
 
 /// "S is a multiple of 4, at least 4; the house limit is 64"
@@ -122,7 +135,7 @@ pub fn number_at(bytes: &[u8], place: usize) -> Option<u16> {
     Some(u16::from_be_bytes([two[0], two[1]]))
 }
 
-/// The key reader: "hands back the public key as a part of the lent list". Order: 15, 4.
+/// The key reader: "hands back the public key as a part of the lent list". Order: the list's, 4.
 pub fn public_key(list: &[u8], id: u8) -> Result<&[u8], Refusal> {
     let read = read_list(list)?;
     let configuration = read.with_id(id).ok_or_else(|| refusal(4))?;
@@ -160,20 +173,16 @@ pub mod tests {
     }
 
     /// A length and as many bytes, those given first.
-    fn with_length(length: u16, first: &[u8]) -> Vec<u8> {
+    pub fn with_length(length: u16, first: &[u8]) -> Vec<u8> {
         let mut inside = first.to_vec();
         inside.resize(usize::from(length), 0x44);
         [&length.to_be_bytes()[..], &inside].concat()
     }
 
-    fn place(list: &[u8]) -> Option<usize> {
-        match read_list(list) {
-            Ok(_) => None,
-            Err(refusal) => {
-                assert_eq!(refusal.number, 15);
-                refusal.place
-            }
-        }
+    /// The number and the place of what is wrong with a list; none where it is good.
+    pub fn wrong(list: &[u8]) -> Option<(u8, usize)> {
+        let refusal = read_list(list).err()?;
+        Some((refusal.number, refusal.place.expect("a place")))
     }
 
     #[test]
@@ -193,7 +202,7 @@ pub mod tests {
     #[test]
     fn the_same_twice() {
         let list = [edge_list(), edge_list()].concat();
-        assert_eq!(place(&list), Some(43));
+        assert_eq!(wrong(&list), Some((21, 45)));
     }
 
     #[test]
@@ -212,12 +221,14 @@ pub mod tests {
     #[test]
     fn empty_truncated_and_left_over() {
         let list = edge_list();
-        assert_eq!(place(&[]), Some(0));
+        assert_eq!(wrong(&[]), Some((18, 0)));
         for length in 1..43 {
-            assert_eq!(place(&list[..length]), Some(0));
+            assert_eq!(wrong(&list[..length]), Some((18, 0)));
         }
-        for extra in 1..5 {
-            assert_eq!(place(&[list.clone(), vec![0; extra]].concat()), Some(43));
+        // A length byte alone, then a configuration of 0 bytes.
+        for (extra, number) in [(1, 18), (2, 19), (3, 19), (4, 19)] {
+            let list = [list.clone(), vec![0; extra]].concat();
+            assert_eq!(wrong(&list), Some((number, 43)));
         }
     }
 
@@ -227,7 +238,7 @@ pub mod tests {
             let mut list = edge_list();
             list[1] = off;
             list.push(0);
-            assert_eq!(place(&list), Some(0));
+            assert_eq!(wrong(&list), Some((19, 0)));
         }
     }
 
@@ -239,9 +250,9 @@ pub mod tests {
             let expected = if length % 4 == 0 && (4..=64).contains(&length) {
                 None
             } else {
-                Some(0)
+                Some((20, 37))
             };
-            assert_eq!(place(&list), expected);
+            assert_eq!(wrong(&list), expected);
             assert!(!good.contains(&length) || expected.is_none());
         }
     }
@@ -249,9 +260,11 @@ pub mod tests {
     #[test]
     fn every_kem_has_its_own_key_length() {
         for (kem, npk) in [(16, 65), (17, 97), (18, 133), (32, 32), (33, 56)] {
-            assert_eq!(place(&configuration(0, kem, npk, &[0; 4])), None);
-            assert_eq!(place(&configuration(0, kem, npk - 1, &[0; 4])), Some(0));
-            assert_eq!(place(&configuration(0, kem, npk + 1, &[0; 4])), Some(0));
+            assert_eq!(wrong(&configuration(0, kem, npk, &[0; 4])), None);
+            // The pair length is read where it stands for that KEM: here 0x0400 and 0x2200.
+            let bad = Some((20, 5 + npk));
+            assert_eq!(wrong(&configuration(0, kem, npk - 1, &[0; 4])), bad);
+            assert_eq!(wrong(&configuration(0, kem, npk + 1, &[0; 4])), bad);
         }
     }
 
@@ -263,22 +276,22 @@ pub mod tests {
                 .collect()
         };
         assert_eq!(read_list(&of(16)).unwrap().configurations.len(), 16);
-        assert_eq!(place(&of(17)), Some(16 * 43));
+        assert_eq!(wrong(&of(17)), Some((22, 16 * 43)));
     }
 
     #[test]
     fn the_first_bad_configuration_counts() {
         let good = configuration(1, 0x0020, 32, &[0; 4]);
-        let bad = configuration(2, 0x0020, 33, &[0; 4]);
+        let bad = configuration(2, 0x0020, 32, &[0; 5]);
         let skipped = unknown(2, 0x0022, 9);
         let list = [good.clone(), bad.clone(), good.clone()].concat();
-        assert_eq!(place(&list), Some(43));
+        assert_eq!(wrong(&list), Some((20, 43 + 37)));
         let list = [good.clone(), good.clone(), bad.clone()].concat();
-        assert_eq!(place(&list), Some(43));
+        assert_eq!(wrong(&list), Some((21, 43 + 2)));
         let list = [good.clone(), skipped.clone(), good, bad.clone()].concat();
-        assert_eq!(place(&list), Some(43 + 11));
+        assert_eq!(wrong(&list), Some((21, 43 + 11 + 2)));
         let list = [skipped.clone(), bad, skipped].concat();
-        assert_eq!(place(&list), Some(11));
+        assert_eq!(wrong(&list), Some((20, 11 + 37)));
     }
 
     #[test]
@@ -286,7 +299,7 @@ pub mod tests {
         let list = edge_list();
         assert_eq!(public_key(&list, 7), Ok(&[0x11; 32][..]));
         assert_eq!(public_key(&list, 8), Err(refusal(4)));
-        assert_eq!(public_key(&list[..42], 8), Err(bad_list(0)));
+        assert_eq!(public_key(&list[..42], 8), Err(refusal_at(18, 0)));
     }
 
     /// Ids and where their public keys start, and how many were skipped.
@@ -326,15 +339,15 @@ pub mod tests {
         for length in 0..3 {
             let short = with_length(length, &[9, 0, 0x22]);
             let short = &short[..2 + usize::from(length)];
-            assert_eq!(place(short), Some(0));
+            assert_eq!(wrong(short), Some((19, 0)));
             // Not even where a KEM could be made up from what follows.
             for next in [0x22, 0x20, 0xff] {
-                assert_eq!(place(&[short, &[next; 90]].concat()), Some(0));
+                assert_eq!(wrong(&[short, &[next; 90]].concat()), Some((19, 0)));
             }
-            assert_eq!(place(&[short, &good].concat()), Some(0));
-            assert_eq!(place(&[&good[..], short].concat()), Some(43));
+            assert_eq!(wrong(&[short, &good].concat()), Some((19, 0)));
+            assert_eq!(wrong(&[&good[..], short].concat()), Some((19, 43)));
             let list = [&unknown(9, 0x22, 3), short, &good].concat();
-            assert_eq!(place(&list), Some(5));
+            assert_eq!(wrong(&list), Some((19, 5)));
         }
     }
 
@@ -343,13 +356,13 @@ pub mod tests {
     fn a_cut_one_is_bad() {
         let (good, skipped) = (edge_list(), unknown(9, 0x0022, 40));
         let list = [&good[..], &skipped].concat();
-        assert_eq!(place(&list[..43]), None);
+        assert_eq!(wrong(&list[..43]), None);
         for length in 44..list.len() {
-            assert_eq!(place(&list[..length]), Some(43));
+            assert_eq!(wrong(&list[..length]), Some((18, 43)));
         }
-        assert_eq!(place(&list), None);
+        assert_eq!(wrong(&list), None);
         for length in 1..skipped.len() {
-            assert_eq!(place(&skipped[..length]), Some(0));
+            assert_eq!(wrong(&skipped[..length]), Some((18, 0)));
         }
     }
 
@@ -359,16 +372,16 @@ pub mod tests {
         for (length, expected) in [
             (3, Ok((vec![(7, 10)], 1))),
             // One byte of the next, or the next whole, which is then inside.
-            (4, Err(Some(6))),
+            (4, Err(Some((18, 6)))),
             (3 + 43, Ok((vec![], 1))),
-            (3 + 44, Err(Some(0))),
-            (u16::MAX, Err(Some(0))),
+            (3 + 44, Err(Some((18, 0)))),
+            (u16::MAX, Err(Some((18, 0)))),
         ] {
             let mut list = [&[0, 0, 9, 0, 0x22][..], &good].concat();
             list[..2].copy_from_slice(&length.to_be_bytes());
             match expected {
                 Ok(expected) => assert_eq!(read(&list), expected),
-                Err(expected) => assert_eq!(place(&list), expected),
+                Err(expected) => assert_eq!(wrong(&list), expected),
             }
         }
     }
@@ -383,9 +396,9 @@ pub mod tests {
         assert_eq!(read(&list), (vec![(7, 91)], 3));
         // Those that are read take theirs, whatever is skipped between them.
         let list = [&good[..], &twin, &good].concat();
-        assert_eq!(place(&list), Some(86));
+        assert_eq!(wrong(&list), Some((21, 86 + 2)));
         let list = [&twin[..], &good, &unknown(8, 0x0022, 3), &good].concat();
-        assert_eq!(place(&list), Some(91));
+        assert_eq!(wrong(&list), Some((21, 91 + 2)));
     }
 
     /// "It counts towards the sixteen."
@@ -411,10 +424,11 @@ pub mod tests {
             let sixteen = of(skipped, 16);
             let read = read_list(&sixteen).unwrap();
             assert_eq!((read.count(), read.skipped), (16, in_sixteen));
-            assert_eq!(place(&of(skipped, 17)), Some(16 * 43));
+            assert_eq!(wrong(&of(skipped, 17)), Some((22, 16 * 43)));
             // Whatever stands in the seventeenth place is bad there.
             for more in [&[0][..], &[0, 3], &[0, 3, 9, 0, 0x22], &[0, 0]] {
-                assert_eq!(place(&[&sixteen, more].concat()), Some(16 * 43));
+                let list = [&sixteen, more].concat();
+                assert_eq!(wrong(&list), Some((22, 16 * 43)));
             }
         }
     }
@@ -462,18 +476,22 @@ pub mod tests {
         let (longest, good) = (unknown(7, 0x0022, u16::MAX), edge_list());
         assert_eq!(longest.len(), 65_537);
         assert_eq!(read(&longest), (vec![], 1));
-        assert_eq!(place(&longest[..65_536]), Some(0));
+        assert_eq!(wrong(&longest[..65_536]), Some((18, 0)));
         let list = [&longest[..], &good].concat();
         assert_eq!(read(&list), (vec![(7, 65_542)], 1));
-        assert_eq!(place(&list[..list.len() - 1]), Some(65_537));
+        assert_eq!(wrong(&list[..list.len() - 1]), Some((18, 65_537)));
         let list = [&good[..], &longest].concat();
         assert_eq!(read(&list), (vec![(7, 5)], 1));
-        assert_eq!(place(&list[..list.len() - 1]), Some(43));
+        assert_eq!(wrong(&list[..list.len() - 1]), Some((18, 43)));
         // Sixteen of them, and one more.
         assert_eq!(read(&longest.repeat(16)), (vec![], 16));
-        assert_eq!(place(&longest.repeat(17)), Some(16 * 65_537));
-        // That of a known KEM is bad.
-        assert_eq!(place(&unknown(7, 0x0020, u16::MAX)), Some(0));
+        assert_eq!(wrong(&longest.repeat(17)), Some((22, 16 * 65_537)));
+        // That of a known KEM is bad: here its pair length is 0x4444, and there 4.
+        let mut known = unknown(7, 0x0020, u16::MAX);
+        assert_eq!(wrong(&known), Some((20, 37)));
+        known[37..39].copy_from_slice(&[0, 4]);
+        assert_eq!(wrong(&known), Some((19, 0)));
+        assert_eq!(wrong(&[&longest[..], &known].concat()), Some((19, 65_537)));
     }
 
     #[test]
@@ -487,11 +505,11 @@ pub mod tests {
             match kem {
                 0x20 => assert_eq!(read(&list), (vec![(7, 5), (8, 48)], 0)),
                 // Of 41 bytes, which is none of the other known ones.
-                _ if known => assert_eq!(place(&list), Some(43)),
+                _ if known => assert_eq!(wrong(&list), Some((19, 43))),
                 _ => assert_eq!(read(&list), (vec![(7, 5)], 1)),
             }
-            let expected = if known { Some(0) } else { None };
-            assert_eq!(place(&unknown(7, kem, 3)), expected);
+            let expected = if known { Some((19, 0)) } else { None };
+            assert_eq!(wrong(&unknown(7, kem, 3)), expected);
         }
     }
 
@@ -508,7 +526,7 @@ pub mod tests {
         assert_eq!(public_key(&list, 7), Ok(&[0x11; 32][..]));
         let cut = &list[..list.len() - 1];
         for id in [7, 8] {
-            assert_eq!(public_key(cut, id), Err(bad_list(86)));
+            assert_eq!(public_key(cut, id), Err(refusal_at(18, 86)));
         }
     }
 }

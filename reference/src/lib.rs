@@ -28,3 +28,5 @@ pub mod skipped;
 #[cfg(test)]
 mod skipping;
 pub mod table;
+#[cfg(test)]
+mod wrong_lists;

@@ -1,6 +1,7 @@
-//! Refusals: 01, "Refusal numbers".
+//! Refusals: 01, "Refusal numbers"; 02, A2.
 
-/// A refusal's number and, for 15 alone, its place.
+/// A refusal's number and, where there is one, its place. The answer says whether there is one,
+/// and not the number: the list writer's 3 has a place, admit's and head's have none.
 #[derive(Clone, Copy, Debug, PartialEq, Eq)]
 pub struct Refusal {
     pub number: u8,
@@ -15,10 +16,10 @@ pub fn refusal(number: u8) -> Refusal {
     }
 }
 
-/// Number 15: "key list bad; place = offset of the offending configuration's length".
-pub fn bad_list(place: usize) -> Refusal {
+/// A refusal with "the offset of the first byte of the field at fault".
+pub fn refusal_at(number: u8, place: usize) -> Refusal {
     Refusal {
-        number: 15,
+        number,
         place: Some(place),
     }
 }

@@ -355,7 +355,7 @@ mod tests {
         let nonce = "22".repeat(16);
         let expected = [
             "good configurations=1 skipped=0".to_string(),
-            "refused 15 at 43".to_string(),
+            "refused 21 at 45".to_string(),
             format!("key {key}"),
             "refused 4".to_string(),
             "chosen key=7 kem=0020 kdf=0001 aead=0003 public=5..37".to_string(),
@@ -364,8 +364,57 @@ mod tests {
             format!("split nonce={nonce} ciphertext={nonce}"),
             format!("written length=43 buffer={list}a5"),
             format!("refused 14 buffer={}", "a5".repeat(42)),
-            "refused 15 at 0 buffer=a5".to_string(),
+            "refused 18 at 0 buffer=a5".to_string(),
             String::new(),
+        ];
+        assert_eq!(answers(&calls.join("\n")), expected.join("\n"));
+    }
+
+    /// "`refused N at PLACE` for 18 to 22 ..., and for 3 in write. Admit's and head's 3 have no
+    /// place."
+    #[test]
+    fn lines_with_a_place() {
+        let (good, key) = (edge_list(), "11".repeat(32));
+        let mut sixteen = String::new();
+        for id in 0..16 {
+            sixteen.push_str(&good.replacen("07", &format!("{id:02x}"), 1));
+        }
+        let lists = [
+            ("00".to_string(), "refused 18 at 0"),
+            (format!("{good}000107"), "refused 19 at 43"),
+            (good.replace("0004", "0006"), "refused 20 at 37"),
+            (format!("{good}{good}"), "refused 21 at 45"),
+            (format!("{sixteen}00"), "refused 22 at 688"),
+        ];
+        for (list, refused) in lists {
+            let calls = [
+                format!("check {list}"),
+                format!("setup 0 {list}"),
+                format!("key {list} 8"),
+                format!("choose {list} 0020 0001"),
+            ];
+            assert_eq!(answers(&calls.join("\n")), format!("{refused}\n").repeat(4));
+        }
+        let calls = [
+            "write 1".to_string(),
+            format!("write 1 7 0022 {key} 00010003"),
+            "write 1 7 0020 - 00010003".to_string(),
+            format!("write 1 7 0020 {key} -"),
+            format!("write 1 7 0020 {key} 00010003 7 0020 {key} 00010003"),
+            format!("write 1 7 0020 {key} 00010003"),
+            format!("head 7 0022 0001 0003 {key} 1 1"),
+            format!("admit 07002200010003{key} 1"),
+        ];
+        let expected = [
+            "refused 18 at 0 buffer=a5",
+            "refused 3 at 3 buffer=a5",
+            "refused 19 at 0 buffer=a5",
+            "refused 20 at 37 buffer=a5",
+            "refused 21 at 45 buffer=a5",
+            "refused 14 buffer=a5",
+            "refused 3 buffer=a5 info=a5",
+            "refused 3 status=400 buffer=a5",
+            "",
         ];
         assert_eq!(answers(&calls.join("\n")), expected.join("\n"));
     }
@@ -406,9 +455,9 @@ mod tests {
             "refused 4 status=400 ohttp-key buffer=-",
             "refused 4",
             "refused 16",
-            "refused 15 at 0",
-            "refused 15 at 0",
-            "refused 15 at 80",
+            "refused 19 at 0",
+            "refused 18 at 0",
+            "refused 22 at 80",
             "",
         ];
         assert_eq!(answers(&calls.join("\n")), expected.join("\n"));

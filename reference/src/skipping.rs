@@ -1,6 +1,6 @@
 //! Skipping changes nothing else (02, A1), on lists from a seed: with a skipped configuration put
-//! in anywhere, a good list is read into the same configurations and a bad one is bad for the same
-//! one, places aside; and so in setup, key reader and choose.
+//! in anywhere, a good list is read into the same configurations and what is wrong with a bad one
+//! stays (02, A2), places aside; and so in setup, key reader and choose.
 
 use crate::algorithms::nenc;
 use crate::client::{choose, Chosen};
@@ -10,7 +10,7 @@ use crate::key_list::tests::unknown;
 use crate::key_list::{public_key, read_list, Configuration, MOST_CONFIGURATIONS};
 use crate::list_writer::{encode, Fields};
 use crate::random::Random;
-use crate::refusal::{bad_list, Refusal};
+use crate::refusal::{refusal_at, Refusal};
 use std::ops::Range;
 
 const KEMS: [u16; 5] = [0x0010, 0x0011, 0x0012, 0x0020, 0x0021];
@@ -134,8 +134,12 @@ fn check_choose(without: &[u8], with: &[u8], put: &Put) {
 
 /// Puts a skipped configuration in at each place of a list in turn and checks what becomes of it.
 fn check_at_each_place(random: &mut Random, list: &[Vec<u8>]) {
+    check_at(random, list, 0..list.len() + 1);
+}
+
+fn check_at(random: &mut Random, list: &[Vec<u8>], places: Range<usize>) {
     let without = list.concat();
-    for place in 0..=list.len() {
+    for place in places {
         let mut with = list.to_vec();
         with.insert(place, skipped(random, list));
         let put = Put {
@@ -179,7 +183,39 @@ fn up_to_sixteen() {
             let mut with = list.clone();
             with.insert(place, skipped(&mut random, &list));
             let seventeenth = with[..MOST_CONFIGURATIONS].concat().len();
-            assert_eq!(read_list(&with.concat()), Err(bad_list(seventeenth)));
+            assert_eq!(read_list(&with.concat()), Err(refusal_at(22, seventeenth)));
+        }
+    }
+}
+
+/// A bad configuration made of a good one, and its number.
+fn spoilt(random: &mut Random, good: &[u8]) -> (Vec<u8>, u8) {
+    match random.below(6) {
+        0 => (vec![0, 0], 19),
+        1 => (vec![0, 2, 7, 0], 19),
+        // One byte less, and one more, than the pair length says.
+        2 => {
+            let length = good.len() - 3;
+            let head = (length as u16).to_be_bytes();
+            ([&head, &good[2..2 + length]].concat(), 19)
+        }
+        3 => {
+            let head = ((good.len() - 1) as u16).to_be_bytes();
+            ([&head, &good[2..], &[0]].concat(), 19)
+        }
+        // Bad pair bytes, with their length or without.
+        4 => {
+            let mut bad = good.to_vec();
+            let kem = u16::from_be_bytes([good[3], good[4]]);
+            bad[6 + nenc(kem).unwrap()] = random.pick(&[0, 1, 66, 68]);
+            (bad, 20)
+        }
+        _ => {
+            let mut bad = good.to_vec();
+            let kem = u16::from_be_bytes([good[3], good[4]]);
+            bad[1] += 2;
+            bad[6 + nenc(kem).unwrap()] += 2;
+            ([bad, vec![0, 0]].concat(), 20)
         }
     }
 }
@@ -193,26 +229,32 @@ fn bad_lists_at_every_place() {
         let mut list = configurations(&mut random, count);
         let place = random.below(count);
         let good = list[place].clone();
-        list[place] = match random.below(5) {
-            0 => vec![0, 0],
-            1 => vec![0, 2, 7, 0],
-            // One byte less, and one more, than the pair length says.
-            2 => {
-                let length = good.len() - 3;
-                [&(length as u16).to_be_bytes(), &good[2..2 + length]].concat()
-            }
-            3 => {
-                let length = good.len() - 1;
-                [&(length as u16).to_be_bytes(), &good[2..], &[0]].concat()
-            }
-            // A key id twice.
-            _ => {
-                list.push(good.clone());
-                good
-            }
+        let number = if random.one_in(4) {
+            list.push(good);
+            21
+        } else {
+            let (bad, number) = spoilt(&mut random, &good);
+            list[place] = bad;
+            number
         };
         let refusal = read_list(&list.concat()).unwrap_err();
-        assert_eq!(refusal.number, 15);
+        assert_eq!(refusal.number, number);
         check_at_each_place(&mut random, &list);
+    }
+}
+
+/// What is put behind a cut one would be taken for its end, so these stand in front.
+#[test]
+fn cut_lists_at_every_place() {
+    let mut random = Random::new(4);
+    for _ in 0..20 {
+        let count = random.between(1, 6);
+        let mut list = configurations(&mut random, count);
+        let last = list.last_mut().unwrap();
+        let length = random.between(1, last.len() - 1);
+        last.truncate(length);
+        let start = list[..count - 1].concat().len();
+        assert_eq!(read_list(&list.concat()), Err(refusal_at(18, start)));
+        check_at(&mut random, &list, 0..count);
     }
 }

@@ -2,13 +2,16 @@
 
 use crate::algorithms::nenc;
 use crate::call::{Call, Line};
-use crate::key_list::{inside_at, kem_of, number_at, read_list, LENGTH_SIZE, MOST_CONFIGURATIONS};
+use crate::key_list::{
+    inside_at, kem_of, number_at, pairs_length_is_good, read_list, KeyList, KEM_PLACE, LENGTH_SIZE,
+};
+use crate::list_writer::{write_list, Fields};
 use crate::skipped::{skipped, Skipped};
 
-/// Each call and the answers that 01 makes possible for it. An abandon is never refused with 12,
+/// Each call and the answers that 01 and 02 make possible for it. An abandon is never refused with 12,
 /// since it is allowed from asked and from opened.
 pub const POSSIBLE: [(&str, &[&str]); 15] = [
-    ("setup", &["ready", "15", "17"]),
+    ("setup", &["ready", "18", "19", "20", "21", "22", "17"]),
     (
         "admit",
         &[
@@ -20,13 +23,19 @@ pub const POSSIBLE: [(&str, &[&str]); 15] = [
     ("abandon", &["abandoned", "11"]),
     ("retire", &["retired", "4", "7"]),
     ("report", &["report"]),
-    ("check", &["good", "15"]),
-    ("key", &["key", "15", "4"]),
-    ("choose", &["chosen", "15", "13", "16"]),
+    ("check", &["good", "18", "19", "20", "21", "22"]),
+    ("key", &["key", "18", "19", "20", "21", "22", "4"]),
+    (
+        "choose",
+        &["chosen", "18", "19", "20", "21", "22", "13", "16"],
+    ),
     ("head", &["head", "3", "6", "13", "14"]),
     ("split", &["split", "6", "1", "2"]),
     ("exporter", &["exporter", "6", "14"]),
-    ("write", &["written", "15", "14"]),
+    (
+        "write",
+        &["written", "18", "22", "3", "19", "20", "21", "14"],
+    ),
     ("bad line", &["bad"]),
 ];
 
@@ -41,17 +50,47 @@ const ALL: &str = "all skipped";
 /// The call names the key id, or the KEM, of a skipped configuration.
 const ID: &str = "id of a skipped one";
 const KEM: &str = "KEM of a skipped one";
-/// What is bad has no KEM, does not lie whole in the list, or is a seventeenth.
-const SHORT: &str = "below 3 bytes";
+/// What is bad is the list's first configuration, or a later one.
+const FIRST: &str = "first configuration";
+const LATER: &str = "later configuration";
+/// How it runs past the list's end.
+const EMPTY: &str = "no configuration";
+const ONE_BYTE: &str = "one length byte";
 const CUT: &str = "unknown KEM, cut";
-const SEVENTEENTH: &str = "unknown KEM, 17th";
-/// A configuration to be written has one.
+const KNOWN_CUT: &str = "known KEM, cut";
+/// How its length and its contents disagree; to be written, how many key bytes are given.
+const SHORT: &str = "below 3 bytes";
+const NO_PAIRS: &str = "no pair length";
+const LESS: &str = "less than announced";
+const MORE: &str = "more than announced";
+/// What is bad with its pair bytes, and whether its length and its contents disagree too.
+const ZERO: &str = "no pair bytes";
+const UNEVEN: &str = "not a multiple of 4";
+const ABOVE: &str = "above 64";
+const AGREES: &str = "length agrees";
+const DISAGREES: &str = "length disagrees too";
+/// Its key id is there twice.
+const TWIN: &str = "key id twice";
+/// It is a seventeenth and would be skipped; to be written, it has an unknown KEM.
 const UNKNOWN: &str = "unknown KEM";
+/// To be written, its public key has no KEM's length, or its pair bytes are bad.
+const BAD_KEY: &str = "bad key length";
+const BAD_PAIRS: &str = "bad pair bytes";
 
-/// Answers that are counted once more, case by case: what 02, A1 adds.
-pub const BY_CASE: [(&str, &str, &[&str]); 21] = [
+const WAYS_18: &[&str] = &[NONE, SOME, FIRST, LATER, EMPTY, ONE_BYTE, CUT, KNOWN_CUT];
+const WAYS_19: &[&str] = &[NONE, SOME, FIRST, LATER, SHORT, NO_PAIRS, LESS, MORE, TWIN];
+const WAYS_20: &[&str] = &[
+    NONE, SOME, FIRST, LATER, ZERO, UNEVEN, ABOVE, AGREES, DISAGREES, TWIN,
+];
+const WAYS_21: &[&str] = &[NONE, SOME];
+const WAYS_22: &[&str] = &[NONE, SOME, UNKNOWN, TWIN];
+
+/// Answers that are counted once more, case by case: what 02, A1 and A2 add.
+pub const BY_CASE: [(&str, &str, &[&str]); 38] = [
     ("setup", "ready", &[NONE, SOME, ALL]),
-    ("setup", "15", &[NONE, SOME]),
+    ("setup", "18", &[LATER]),
+    ("setup", "19", &[LATER]),
+    ("setup", "20", &[LATER]),
     ("setup", "17", &[NONE, SOME, ALL]),
     ("admit", "1", &[ALL]),
     ("admit", "3", &[ALL, KEM]),
@@ -62,15 +101,30 @@ pub const BY_CASE: [(&str, &str, &[&str]); 21] = [
     ("retire", "4", &[ALL, ID]),
     ("report", "report", &[ALL]),
     ("check", "good", &[NONE, SOME, ALL]),
-    ("check", "15", &[NONE, SOME, SHORT, CUT, SEVENTEENTH]),
+    ("check", "18", WAYS_18),
+    ("check", "19", WAYS_19),
+    ("check", "20", WAYS_20),
+    ("check", "21", WAYS_21),
+    ("check", "22", WAYS_22),
     ("key", "key", &[NONE, SOME]),
-    ("key", "15", &[NONE, SOME, SHORT, CUT, SEVENTEENTH]),
+    ("key", "18", WAYS_18),
+    ("key", "19", WAYS_19),
+    ("key", "20", WAYS_20),
+    ("key", "21", WAYS_21),
+    ("key", "22", WAYS_22),
     ("key", "4", &[NONE, SOME, ALL, ID]),
     ("choose", "chosen", &[NONE, SOME]),
-    ("choose", "15", &[NONE, SOME, SHORT, CUT, SEVENTEENTH]),
+    ("choose", "18", WAYS_18),
+    ("choose", "19", WAYS_19),
+    ("choose", "20", WAYS_20),
+    ("choose", "21", WAYS_21),
+    ("choose", "22", WAYS_22),
     ("choose", "13", &[NONE, SOME, ALL]),
     ("choose", "16", &[NONE, SOME, ALL]),
-    ("write", "15", &[UNKNOWN]),
+    ("write", "3", &[FIRST, LATER, BAD_KEY, BAD_PAIRS, TWIN]),
+    ("write", "19", &[FIRST, LATER, LESS, MORE, BAD_PAIRS, TWIN]),
+    ("write", "20", &[FIRST, LATER, ZERO, UNEVEN, ABOVE, TWIN]),
+    ("write", "22", &[UNKNOWN, BAD_KEY, BAD_PAIRS, TWIN]),
 ];
 
 struct Row {
@@ -149,9 +203,10 @@ impl Table {
                 _ => LastSetup::default(),
             };
         }
+        let cases = self.last_setup.cases_of(call);
         for row in &mut self.rows {
             let is_answer = row.call == name(call) && row.answer == answer;
-            if is_answer && !row.case.is_empty() && self.last_setup.is_case_of(row.case, call) {
+            if is_answer && cases.contains(&row.case) {
                 row.times += 1;
             }
         }
@@ -173,60 +228,147 @@ impl LastSetup {
     fn of(list: &[u8]) -> LastSetup {
         LastSetup {
             skipped: skipped(list),
-            all_skipped: is_list_case(ALL, list),
+            all_skipped: list_cases(list).contains(&ALL),
         }
     }
 
-    /// Whether that case holds for a call after the setup.
-    fn is_case_of(&self, case: &str, call: &Call) -> bool {
-        let has_id = |all: &[Skipped], id: u8| all.iter().any(|one| one.id == id);
+    /// The cases that hold for a call after the setup.
+    fn cases_of(&self, call: &Call) -> Vec<&'static str> {
+        let mut cases = Vec::new();
         match call {
-            Call::Key { list, key_id } if case == ID => has_id(&skipped(list), *key_id),
-            Call::Setup { list, .. }
-            | Call::Check { list }
-            | Call::Key { list, .. }
-            | Call::Choose { list, .. } => is_list_case(case, list),
-            Call::Admit { request, .. } if case == ID => request
-                .first()
-                .map_or(false, |id| has_id(&self.skipped, *id)),
-            Call::Admit { request, .. } if case == KEM => {
-                // It stands in a request where it stands in a configuration.
-                let kem = kem_of(request);
-                self.skipped.iter().any(|one| Some(one.kem) == kem)
+            Call::Setup { list, .. } | Call::Check { list } | Call::Choose { list, .. } => {
+                return list_cases(list);
             }
-            Call::Retire { key_id } if case == ID => has_id(&self.skipped, *key_id),
-            Call::Write { configurations, .. } => {
-                configurations.iter().any(|fields| is_unknown(fields.kem))
+            Call::Key { list, key_id } => {
+                cases = list_cases(list);
+                note(&mut cases, ID, has_id(&skipped(list), *key_id));
+                return cases;
             }
-            _ => case == ALL && self.all_skipped,
+            Call::Write { configurations, .. } => return given_cases(configurations),
+            Call::Admit { request, .. } => {
+                // The KEM stands in a request where it stands in a configuration.
+                let (id, kem) = (request.first(), kem_of(request));
+                let has_kem = self.skipped.iter().any(|one| Some(one.kem) == kem);
+                note(&mut cases, KEM, has_kem);
+                let has_id = id.map_or(false, |id| has_id(&self.skipped, *id));
+                note(&mut cases, ID, has_id);
+            }
+            Call::Retire { key_id } => note(&mut cases, ID, has_id(&self.skipped, *key_id)),
+            _ => {}
         }
+        note(&mut cases, ALL, self.all_skipped);
+        cases
     }
+}
+
+fn note(cases: &mut Vec<&'static str>, case: &'static str, holds: bool) {
+    if holds {
+        cases.push(case);
+    }
+}
+
+fn has_id(all: &[Skipped], id: u8) -> bool {
+    all.iter().any(|one| one.id == id)
 }
 
 fn is_unknown(kem: u16) -> bool {
     nenc(kem).is_none()
 }
 
-/// Whether that case holds for a key list.
-fn is_list_case(case: &str, list: &[u8]) -> bool {
+/// The cases that hold for a key list.
+fn list_cases(list: &[u8]) -> Vec<&'static str> {
     let start = first_bad(list);
-    let read = read_list(&list[..start]).unwrap_or_default();
-    let inside = inside_at(list, start);
-    match case {
-        NONE => read.skipped == 0,
-        ALL => read.skipped > 0 && read.configurations.is_empty() && start == list.len(),
-        SOME => read.skipped > 0 && !is_list_case(ALL, list),
-        SHORT => inside.map_or(false, |inside| kem_of(inside).is_none()),
-        CUT => {
-            let kem = number_at(list, start + LENGTH_SIZE + 1);
-            inside.is_none() && kem.map_or(false, is_unknown)
-        }
-        SEVENTEENTH => {
-            let kem = inside.and_then(kem_of);
-            read.count() == MOST_CONFIGURATIONS && kem.map_or(false, is_unknown)
-        }
-        _ => false,
+    let front = read_list(&list[..start]).unwrap_or_default();
+    let is_good = start == list.len() && !list.is_empty();
+    let none_read = front.configurations.is_empty();
+    let mut cases = vec![match front.skipped {
+        0 => NONE,
+        _ if is_good && none_read => ALL,
+        _ => SOME,
+    }];
+    if is_good {
+        return cases;
     }
+    cases.push(if start == 0 { FIRST } else { LATER });
+    match inside_at(list, start) {
+        None => cases.push(cut_case(list, start)),
+        Some(inside) => cases.extend(inside_cases(inside, &front)),
+    }
+    cases
+}
+
+/// The case of a configuration that does not lie whole in the list.
+fn cut_case(list: &[u8], start: usize) -> &'static str {
+    match (list.len() - start, number_at(list, start + KEM_PLACE)) {
+        (0, _) => EMPTY,
+        (1, _) => ONE_BYTE,
+        (_, Some(kem)) if is_unknown(kem) => CUT,
+        _ => KNOWN_CUT,
+    }
+}
+
+/// The cases of a bad configuration that does.
+fn inside_cases(inside: &[u8], front: &KeyList) -> Vec<&'static str> {
+    let npk = match kem_of(inside).map(nenc) {
+        None => return vec![SHORT],
+        Some(None) => return vec![UNKNOWN],
+        Some(Some(npk)) => npk,
+    };
+    let mut cases = Vec::new();
+    note(&mut cases, TWIN, front.with_id(inside[0]).is_some());
+    let announced = match number_at(inside, 3 + npk) {
+        Some(announced) => usize::from(announced),
+        None => {
+            cases.push(NO_PAIRS);
+            return cases;
+        }
+    };
+    let there = inside.len() - 5 - npk;
+    cases.extend(length_cases(announced, there));
+    cases.extend(pair_cases(announced));
+    let is_bad = !pairs_length_is_good(announced);
+    note(&mut cases, AGREES, is_bad && there == announced);
+    note(&mut cases, DISAGREES, is_bad && there != announced);
+    cases
+}
+
+fn length_cases(announced: usize, there: usize) -> Vec<&'static str> {
+    let mut cases = Vec::new();
+    note(&mut cases, LESS, there < announced);
+    note(&mut cases, MORE, there > announced);
+    cases
+}
+
+fn pair_cases(length: usize) -> Vec<&'static str> {
+    let mut cases = Vec::new();
+    note(&mut cases, ZERO, length == 0);
+    note(&mut cases, UNEVEN, length % 4 != 0);
+    note(&mut cases, ABOVE, length % 4 == 0 && length > 64);
+    cases
+}
+
+/// The cases of the first bad configuration of those to be written.
+fn given_cases(configurations: &[Fields]) -> Vec<&'static str> {
+    let mut room = vec![0; 10_000];
+    let is_bad = |place: &usize| write_list(&configurations[..=*place], &mut room).is_err();
+    let place = match (0..configurations.len()).find(is_bad) {
+        Some(place) => place,
+        None => return Vec::new(),
+    };
+    let (before, bad) = (&configurations[..place], &configurations[place]);
+    let mut cases = vec![if place == 0 { FIRST } else { LATER }];
+    let is_twin = before.iter().any(|other| other.id == bad.id);
+    note(&mut cases, TWIN, is_twin);
+    note(&mut cases, UNKNOWN, is_unknown(bad.kem));
+    let key = bad.public_key.len();
+    note(&mut cases, BAD_KEY, ![32, 56, 65, 97, 133].contains(&key));
+    if let Some(npk) = nenc(bad.kem) {
+        cases.extend(length_cases(npk, key));
+    }
+    let pairs_length = 2 * bad.pairs.len();
+    note(&mut cases, BAD_PAIRS, !pairs_length_is_good(pairs_length));
+    cases.extend(pair_cases(pairs_length));
+    cases
 }
 
 /// Where the first bad configuration starts; a good list's end. What stands in front of it is a
@@ -319,26 +461,99 @@ mod tests {
         assert_eq!(check(good.clone()), good_case(NONE));
         assert_eq!(check([&good[..], &skipped].concat()), good_case(SOME));
         assert_eq!(check([&skipped[..], &skipped].concat()), good_case(ALL));
-        let bad_cases = |names: &[&'static str]| -> Vec<(&str, String, &str)> {
-            names.iter().map(|name| case("check", "15", name)).collect()
+    }
+
+    /// The cases of a bad list, which are counted with its number.
+    #[test]
+    fn cases_of_bad_lists() {
+        let (good, skipped) = (edge_list(), unknown(9, 0x22, 3));
+        let bad = |list: &[u8], number: &str, names: &[&'static str]| {
+            let expected: Vec<_> = names.iter().map(|name| case("key", number, name)).collect();
+            assert_eq!(cases(&[format!("key {} 1", hex(list))]), expected);
         };
-        assert_eq!(check(Vec::new()), bad_cases(&[NONE]));
-        assert_eq!(check(skipped[..4].to_vec()), bad_cases(&[NONE]));
-        assert_eq!(
-            check(unknown(9, 0x22, 4)[..5].to_vec()),
-            bad_cases(&[NONE, CUT])
+        bad(&[], "18", &[NONE, FIRST, EMPTY]);
+        bad(&[0], "18", &[NONE, FIRST, ONE_BYTE]);
+        bad(&unknown(9, 0x22, 4)[..5], "18", &[NONE, FIRST, CUT]);
+        bad(&good[..42], "18", &[NONE, FIRST, KNOWN_CUT]);
+        let list = [&skipped[..], &good[..42]].concat();
+        bad(&list, "18", &[SOME, LATER, KNOWN_CUT]);
+        let list = [&skipped[..], &[0, 2, 9, 9]].concat();
+        bad(&list, "19", &[SOME, LATER, SHORT]);
+        bad(&[0, 3, 7, 0, 0x20], "19", &[NONE, FIRST, NO_PAIRS]);
+        let with = |length: u8, pairs_length: u8, size: usize| {
+            let mut list = good.clone();
+            list[1] = length;
+            list[38] = pairs_length;
+            list.resize(size, 0);
+            list
+        };
+        bad(&with(40, 4, 42), "19", &[NONE, FIRST, LESS]);
+        bad(&with(42, 4, 44), "19", &[NONE, FIRST, MORE]);
+        bad(&with(37, 0, 39), "20", &[NONE, FIRST, ZERO, AGREES]);
+        bad(&with(41, 5, 43), "20", &[NONE, FIRST, UNEVEN, DISAGREES]);
+        bad(&with(42, 5, 44), "20", &[NONE, FIRST, UNEVEN, AGREES]);
+        let list = [&good[..], &with(41, 68, 43)].concat();
+        bad(&list, "20", &[NONE, LATER, ABOVE, DISAGREES, TWIN]);
+        let list = [&good[..], &with(41, 8, 43)].concat();
+        bad(&list, "19", &[NONE, LATER, LESS, TWIN]);
+        bad(&[&good[..], &good].concat(), "21", &[NONE]);
+        bad(&[&good[..], &skipped, &good].concat(), "21", &[SOME]);
+        bad(&skipped.repeat(17), "22", &[SOME, UNKNOWN]);
+        bad(&[skipped.repeat(16), good].concat(), "22", &[SOME]);
+    }
+
+    #[test]
+    fn cases_of_write() {
+        let (key, good) = (
+            "11".repeat(32),
+            format!("1 0020 {} 00010003", "11".repeat(32)),
         );
-        assert_eq!(
-            check([&skipped[..], &good[..42]].concat()),
-            bad_cases(&[SOME])
+        let bad = |given: &str, number: &str, names: &[&'static str]| {
+            let expected: Vec<_> = names
+                .iter()
+                .map(|name| case("write", number, name))
+                .collect();
+            assert_eq!(cases(&[format!("write 9 {given}")]), expected);
+        };
+        bad(&format!("1 0022 {key} 00010003"), "3", &[FIRST]);
+        bad(
+            &format!("{good} 1 0022 - -"),
+            "3",
+            &[LATER, BAD_KEY, BAD_PAIRS, TWIN],
         );
-        assert_eq!(
-            check([&skipped[..], &[0, 2, 9, 9]].concat()),
-            bad_cases(&[SOME, SHORT])
+        bad(
+            &format!("1 0020 {key}11 0001"),
+            "19",
+            &[FIRST, MORE, BAD_PAIRS],
         );
-        assert_eq!(check(skipped.repeat(17)), bad_cases(&[SOME, SEVENTEENTH]));
-        let list = [skipped.repeat(16), good].concat();
-        assert_eq!(check(list), bad_cases(&[SOME]));
+        bad(
+            &format!("{good} 1 0020 11 0001"),
+            "19",
+            &[LATER, LESS, BAD_PAIRS, TWIN],
+        );
+        bad(&format!("1 0020 {key} -"), "20", &[FIRST, ZERO]);
+        bad(
+            &format!("1 0020 {key} {}", "0001".repeat(34)),
+            "20",
+            &[FIRST, ABOVE],
+        );
+        bad(
+            &format!("{good} 1 0020 {key} 0001"),
+            "20",
+            &[LATER, UNEVEN, TWIN],
+        );
+        bad(&format!("{good} {good}"), "21", &[]);
+        bad(&good, "14", &[]);
+        let sixteen: Vec<String> = (0..16)
+            .map(|id| format!("{id} 0020 {key} 00010003"))
+            .collect();
+        let sixteen = sixteen.join(" ");
+        bad(
+            &format!("{sixteen} 1 0022 - -"),
+            "22",
+            &[UNKNOWN, BAD_KEY, BAD_PAIRS, TWIN],
+        );
+        bad(&format!("{sixteen} 99 0020 {key} 00010003"), "22", &[]);
     }
 
     #[test]

@@ -7,7 +7,7 @@ use Rattle.wire.specs.Texts.{ascii, requestLabel}
 use Rattle.wire.specs.Search.{firstPlace, anyPasses, filtered, find}
 use Rattle.algorithms.specs.Table.{table, rowOf}
 use Rattle.algorithms.specs.Sizes.{knownKem, knownKdf, knownAead, encLength, publicKeyLength, keyLength}
-use Rattle.keylist.specs.Layout.{parse, parseFrom, isSkipped, layoutHolds, configurationAt, pairsAt}
+use Rattle.keylist.specs.Layout.{parse, parseFrom, faultOf, isSkipped, configurationAt, pairsAt}
 use Rattle.keylist.specs.Edges.{hex, edgeList}
 use Rattle.keylist.proofs.Edges.{list-edges}
 use Rattle.exchange.specs.Exchange.{leftIn}
@@ -65,5 +65,5 @@ gateway-edges =
     }
 
 pub moved-example : MovedExample
-unfolding ascii requestLabel firstPlace anyPasses table rowOf knownKem knownKdf knownAead encLength publicKeyLength keyLength parse parseFrom isSkipped layoutHolds configurationAt pairsAt hex edgeList leftIn refusalBy keysOf storedKeys admitRefusal placeBy filtered gatewayDoes number trace final ticketsOf ticketsGiven bookDoes replaced withOwnCalls stepNumber find retireRefusal withKey
+unfolding ascii requestLabel firstPlace anyPasses table rowOf knownKem knownKdf knownAead encLength publicKeyLength keyLength parse parseFrom faultOf isSkipped configurationAt pairsAt hex edgeList leftIn refusalBy keysOf storedKeys admitRefusal placeBy filtered gatewayDoes number trace final ticketsOf ticketsGiven bookDoes replaced withOwnCalls stepNumber find retireRefusal withKey
 moved-example = record { order = refl; sameAnswers = refl }

@@ -1,4 +1,4 @@
--- 01, "Choose": the first configuration in list order, and of its pairs the first, that the client can use; 15, 13, 16.
+-- 01, "Choose": the first configuration in list order, and of its pairs the first, that the client can use; what is wrong with the list, 13, 16.
 use mathlib.Core.Path.{_≡_}
 use mathlib.Core.Bool.{Bool, true}
 use mathlib.Core.List.{List, [], _∷_}

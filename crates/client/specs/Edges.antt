@@ -4,7 +4,7 @@ use mathlib.Core.List.{List, [], _∷_, map}
 use mathlib.Core.Path.{_≡_}
 use Prim.Native.Nat.{ℕ}
 use lib.ListN.{replicate}
-use Rattle.wire.specs.Refusals.{refused, badList}
+use Rattle.wire.specs.Refusals.{refused, refusedAt}
 use Rattle.keylist.specs.Edges.{hex}
 use Rattle.keylist.specs.Layout.{parse}
 use Rattle.client.specs.Choose.{chooseFrom}
@@ -27,7 +27,7 @@ pub record ClientEdges : Type 0 where
   pub crossed : chooseFrom (0x0020 ∷ []) (1 ∷ 2 ∷ 2 ∷ 3 ∷ []) (parse appendixList) ≡ Chosen.Refused (refused 16)
   pub otherKem : chooseFrom (0x0021 ∷ []) (1 ∷ 3 ∷ []) (parse appendixList) ≡ Chosen.Refused (refused 16)
   pub oddPairs : chooseFrom (0x0021 ∷ []) (1 ∷ 3 ∷ 1 ∷ []) (parse appendixList) ≡ Chosen.Refused (refused 13)
-  pub badFirst : chooseFrom [] (1 ∷ []) (parse (0 ∷ [])) ≡ Chosen.Refused (badList 0)
+  pub badFirst : chooseFrom [] (1 ∷ []) (parse (0 ∷ [])) ≡ Chosen.Refused (refusedAt 18 0)
   -- room one byte short in either buffer; enc, pair and KEM wrong, each with all that follows wrong too
   pub headOrder :
       headRefusal 0x0020 1 1 (replicate 32 0) 39 29

@@ -7,7 +7,8 @@ ghost use lib.Dec.{eqb};
 ghost use lib.ListN.{length};
 ghost use Rattle.wire.specs.Tests.{_and_};
 ghost use Rattle.wire.specs.Refusals.{refused};
-ghost use Rattle.keylist.specs.Layout.{parse, layoutHolds, configurationAt, pairsAt};
+ghost use Rattle.keylist.specs.Before.{layoutHolds};
+ghost use Rattle.keylist.specs.Layout.{parse, configurationAt, pairsAt};
 ghost use Rattle.keylist.specs.Helpers.{IsGood};
 ghost use Rattle.client.specs.declared.choose.Chosen.{Chosen};
 ghost use Rattle.client.specs.Choose.{listed, usablePair, chooseFirst, chooseFrom};
@@ -45,7 +46,7 @@ enum PairFound {
     Nothing,
 }
 
-// The first usable configuration with its first usable pair, or the refusal: 15 with its place, 13, 16.
+// The first usable configuration with its first usable pair, or the refusal: what is wrong with the list, with its place, 13, 16.
 pub fn choose(list: &[u8], kems: &[u16], pairs: &[u16]) -> Chosen
     ensures { λ r. ⌜ r ≡ chooseFrom (now (kems .entry)) (now (pairs .entry)) (parse (now (list .entry))) ⌝ }
 {

@@ -37,7 +37,7 @@ mostUses = 1000000000
 abbrev pub capHolds : ℕ → Bool
 capHolds cap = leb 1 cap and leb cap mostUses
 
--- 01, "Order", setup: 15 with its place, 17; else the configurations
+-- 01, "Order", setup: what is wrong with the list, then 17; else the configurations
 abbrev pub withCap : ℕ → Result (List Configuration) → Result (List Configuration)
 withCap cap (good cs) = pick (capHolds cap) (good cs) (bad (refused 17))
 withCap cap (bad r) = bad r

@@ -23,7 +23,7 @@ use results::client_calls::split_result;
 use results::outcome::NumberResult;
 use results::outcome::TwoNumbersResult;
 
-// Choose: 15 with its place, 13, 16.
+// Choose: 18 to 22 with their place, 13, 16.
 #[no_mangle]
 pub extern "C" fn sealwax_choose(list: &[u8], kems: &[u16], pairs: &[u16]) -> ChooseResult
     ensures { λ r. ⌜ r ≡ chooseResult (chooseFrom (now (kems .entry)) (now (pairs .entry)) (parse (now (list .entry)))) ⌝ }

@@ -14,7 +14,7 @@ use results::list_calls::write_result;
 use results::outcome::NumberResult;
 use results::outcome::TwoNumbersResult;
 
-// Whether a key list is good, with how many of its configurations were read and how many skipped: 15 with its place where it is not.
+// Whether a key list is good, with how many of its configurations were read and how many skipped: 18 to 22 with their place where it is not.
 #[no_mangle]
 pub extern "C" fn sealwax_check(list: &[u8]) -> TwoNumbersResult
     ensures { λ r. ⌜ r ≡ checkResult (checked (now (list .entry))) ⌝ }
@@ -23,7 +23,7 @@ pub extern "C" fn sealwax_check(list: &[u8]) -> TwoNumbersResult
     check_result(checked)
 }
 
-// Where the public key of a key id starts and ends in the list: 15 with its place, 4.
+// Where the public key of a key id starts and ends in the list: 18 to 22 with their place, 4.
 #[no_mangle]
 pub extern "C" fn sealwax_key(list: &[u8], key_id: u8) -> TwoNumbersResult
     ensures { λ r. ⌜ r ≡ keyResult (keyPlaceIn «key_id» (parse (now (list .entry)))) ⌝ }
@@ -32,7 +32,8 @@ pub extern "C" fn sealwax_key(list: &[u8], key_id: u8) -> TwoNumbersResult
     key_result(place)
 }
 
-// Writes configurations given as fields at the front of a buffer, and answers the length: 15 with the offset where the bad one would start, 14.
+// Writes configurations given as fields at the front of a buffer, and answers the length: 18, 22, 3, 19, 20, 21 with the place of the field
+// in the list that would be written, 14.
 #[no_mangle]
 pub extern "C" fn sealwax_write(
     key_ids: &[u8],

@@ -19,7 +19,8 @@ use Rattle.algorithms.specs.Sizes.{publicKeyLength}
 use Rattle.algorithms.proofs.Stated.{size-bounds}
 use Rattle.keylist.specs.declared.KeyPlace.{KeyPlace}
 use Rattle.keylist.specs.declared.Place.{Place}
-use Rattle.keylist.specs.Layout.{Configuration, good, bad, parse, configurationAt, layoutHolds, keyIdAt, kemAt, keyStart, keyEnd, mostConfigurations, Result}
+use Rattle.keylist.specs.Before.{layoutHolds}
+use Rattle.keylist.specs.Layout.{Configuration, good, bad, parse, configurationAt, keyIdAt, kemAt, keyStart, keyEnd, mostConfigurations, Result}
 use Rattle.keylist.specs.Answers.{configurationWith, keyPlace, keyPlaceIn, keyPart}
 use Rattle.keylist.specs.Helpers.{placeOf, placeAt}
 use Rattle.keylist.specs.Stated.{EmptyOnRefusal, PublicKeyExactly}

@@ -4,4 +4,5 @@ pub mod Parsing
 pub mod Standing
 pub mod Walk
 pub mod Keys
+pub mod Faults
 pub mod Edges

@@ -5,18 +5,21 @@ use mathlib.Core.Bool.{Bool, true, false, not}
 use mathlib.Core.List.{List, [], _∷_, _++_}
 use Prim.Native.Nat.{ℕ, zero, suc, _+_, _≤_, _<_}
 use native.Mathlib.Omega.{arith}
-use borrow.Author.Tests.{le-leb, lt-leb, ltb-true, ltb-false}
+use borrow.Author.Tests.{le-leb, lt-leb, ltb-true, ltb-false, not-true}
 use lib.Dec.{ltb}
 use lib.ListN.{length}
 use Rattle.wire.specs.Tests.{_and_}
 use Rattle.wire.specs.Search.{among, filtered}
-use Rattle.wire.specs.Refusals.{badList}
+use Rattle.wire.specs.Refusals.{refusedAt}
 use Rattle.wire.specs.declared.refusal.Refusal.{Refusal}
-use Rattle.wire.proofs.Booleans.{either, and-left}
+use Rattle.wire.proofs.Booleans.{either, and-left, and-right, true-or-false}
+use Rattle.algorithms.specs.Sizes.{knownKem, publicKeyLength}
+use Rattle.algorithms.proofs.Stated.{size-bounds}
 use Rattle.keylist.specs.declared.Checked.{Checked}
-use Rattle.keylist.specs.Layout.{Configuration, good, bad, parse, parseFrom, followedBy, configurationAt, isSkipped, layoutHolds, keyIdAt, nextStart, mostConfigurations, Result}
+use Rattle.keylist.specs.Before.{layoutHolds}
+use Rattle.keylist.specs.Layout.{Configuration, good, bad, parse, parseFrom, refusedFor, unlessFault, faultOf, keyEnd, followedBy, configurationAt, isSkipped, keyIdAt, kemAt, nextStart, mostConfigurations, Result}
 use Rattle.keylist.specs.Answers.{checkedFrom, startsFrom}
-use Rattle.keylist.proofs.LayoutLaws.{Holds, holds, held-not-skipped, skipped}
+use Rattle.keylist.proofs.LayoutLaws.{Holds, fault-too-many, good-layout, held-no-fault, held-not-skipped, holds, no-fault, skipped, skipped-no-fault}
 
 -- a refusal is no result
 pub no-refusal : {A P : Type 0} {r : Refusal} {a : A} → bad r ≡ good a → P
@@ -29,23 +32,72 @@ goodAt taken bytes at = layoutHolds bytes at and not (among taken (keyIdAt bytes
 pub holding : (bytes taken : List ℕ) (at : ℕ) → goodAt taken bytes at ≡ true → Holds bytes at
 holding bytes taken at g = holds bytes at (and-left (layoutHolds bytes at) (not (among taken (keyIdAt bytes at))) g)
 
+pub not-taken : (bytes taken : List ℕ) (at : ℕ) → goodAt taken bytes at ≡ true → among taken (keyIdAt bytes at) ≡ false
+not-taken bytes taken at g =
+    not-true (among taken (keyIdAt bytes at)) (and-right (layoutHolds bytes at) (not (among taken (keyIdAt bytes at))) g)
+
+pub good-at : (bytes taken : List ℕ) (at : ℕ) → Holds bytes at → among taken (keyIdAt bytes at) ≡ false → goodAt taken bytes at ≡ true
+good-at bytes taken at h new = rw (good-layout bytes at h, new)
+
+-- a fault is refused
+pub refused-for : {A : Type 0} (at end fault : ℕ) (result : Result A) → (fault ≡ 0 → ⊥) → unlessFault at end fault result ≡ bad (refusedFor at end fault)
+refused-for at end zero result h = absurd (h refl)
+refused-for at end (suc n) result h = refl
+
+-- where there is no fault, one more may come
+pub some-more : (more : ℕ) (taken bytes : List ℕ) (at : ℕ) → faultOf more taken bytes at ≡ 0
+    → (fewer : ℕ) × (more ≡ suc fewer) × (faultOf (suc fewer) taken bytes at ≡ 0)
+some-more zero taken bytes at e = absurd (omega (arith, e, fault-too-many zero taken bytes at refl))
+some-more (suc fewer) taken bytes at e = (fewer, refl, e)
+
+-- and where the key length is 0 the configuration is skipped, else it is good
+module _ (taken bytes : List ℕ) (at more : ℕ) (none : faultOf (suc more) taken bytes at ≡ 0) where
+  pub skipped-by-key : publicKeyLength (kemAt bytes at) ≡ 0 → isSkipped bytes at ≡ true
+  skipped-by-key key =
+      either (isSkipped bytes at) (λ k. k)
+      (λ k. absurd (omega (arith, key, size-bounds .keyIsThere (kemAt bytes at) (no-fault more taken bytes at none k .0 .kem))))
+
+  pub good-by-key : (publicKeyLength (kemAt bytes at) ≡ 0 → ⊥) → goodAt taken bytes at ≡ true
+  good-by-key key =
+      let unskipped =
+      either (isSkipped bytes at)
+      (λ k. absurd (key (size-bounds .noKeyUnknown (kemAt bytes at) (not-true (knownKem (kemAt bytes at)) (skipped bytes at k .kem))))) (λ k. k) in
+      let (h, new) = no-fault more taken bytes at none unskipped in
+      good-at bytes taken at h new
+
 module _ (more : ℕ) (taken bytes : List ℕ) (at : ℕ) where
   pub parse-end : length bytes ≤ at → parseFrom more taken bytes at ≡ good []
   unfolding parseFrom
   parse-end h = elim more [ zero ↦ rw (le-leb (length bytes) at h) | suc n ↦ rw (le-leb (length bytes) at h) ]
 
-  pub parse-too-many : at < length bytes → more ≡ 0 → parseFrom more taken bytes at ≡ bad (badList at)
+  pub parse-fault : at < length bytes → (faultOf more taken bytes at ≡ 0 → ⊥) → parseFrom more taken bytes at ≡ bad (refusedFor at (keyEnd bytes at) (faultOf more taken bytes at))
   unfolding parseFrom
-  parse-too-many h e = rw (e, lt-leb (length bytes) at h)
+  parse-fault h =
+      elim more [
+        | zero ↦ λ e. rw (lt-leb (length bytes) at h)
+        | suc n ↦ λ e. rw (lt-leb (length bytes) at h) (refused-for at (keyEnd bytes at) (faultOf (suc n) taken bytes at) _ e)
+      ]
+
+  pub parse-too-many : at < length bytes → more ≡ 0 → parseFrom more taken bytes at ≡ bad (refusedFor at (keyEnd bytes at) (faultOf more taken bytes at))
+  parse-too-many h e = parse-fault h (λ z. omega (arith, z, fault-too-many more taken bytes at e))
+
+  -- one that is neither skipped nor good has a fault
+  faulty : (n : ℕ) → faultOf (suc n) taken bytes at ≡ 0 → isSkipped bytes at ≡ false → goodAt taken bytes at ≡ false → ⊥
+  faulty n z k e = let (h, new) = no-fault n taken bytes at z k in true-or-false (good-at bytes taken at h new) e
 
   pub parse-bad : at < length bytes → isSkipped bytes at ≡ false → goodAt taken bytes at ≡ false
-      → parseFrom more taken bytes at ≡ bad (badList at)
+      → parseFrom more taken bytes at ≡ bad (refusedFor at (keyEnd bytes at) (faultOf more taken bytes at))
   unfolding parseFrom
-  parse-bad h k e = elim more [ zero ↦ rw (lt-leb (length bytes) at h) | suc n ↦ rw (lt-leb (length bytes) at h, k, e) ]
+  parse-bad h k =
+      elim more [
+        | zero ↦ λ e. rw (lt-leb (length bytes) at h)
+        | suc n ↦ λ e. rw (lt-leb (length bytes) at h) (refused-for at (keyEnd bytes at) (faultOf (suc n) taken bytes at) _ (λ z. faulty n z k e))
+      ]
 
   pub parse-skip : isSkipped bytes at ≡ true → parseFrom (suc more) taken bytes at ≡ parseFrom more taken bytes (nextStart bytes at)
   unfolding parseFrom
-  parse-skip k = rw (lt-leb (length bytes) at (omega (arith, skipped bytes at k .whole)), k)
+  parse-skip k =
+      rw (lt-leb (length bytes) at (omega (arith, skipped bytes at k .whole)), skipped-no-fault more taken bytes at k, k)
 
   pub parse-more : goodAt taken bytes at ≡ true
       → parseFrom (suc more) taken bytes at
@@ -53,14 +105,14 @@ module _ (more : ℕ) (taken bytes : List ℕ) (at : ℕ) where
   unfolding parseFrom
   parse-more e =
       let is = holding bytes taken at e in
-      rw (lt-leb (length bytes) at (omega (arith, is .whole)), held-not-skipped bytes at is, e)
+      rw (lt-leb (length bytes) at (omega (arith, is .whole)), held-no-fault more taken bytes at is (not-taken bytes taken at e), held-not-skipped bytes at is)
 
 pub parse-some : (bytes : List ℕ) → 0 < length bytes → parse bytes ≡ parseFrom mostConfigurations [] bytes 0
 unfolding parse
 parse-some [] h = absurd (omega arith)
 parse-some (b ∷ bytes) h = refl
 
-pub parse-none : (bytes : List ℕ) → length bytes ≡ 0 → parse bytes ≡ bad (badList 0)
+pub parse-none : (bytes : List ℕ) → length bytes ≡ 0 → parse bytes ≡ bad (refusedAt 18 0)
 unfolding parse
 parse-none [] h = refl
 parse-none (b ∷ bytes) h = absurd (omega arith)

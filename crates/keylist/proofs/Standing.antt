@@ -13,7 +13,8 @@ use Rattle.wire.specs.Bytes.{byteAt, wordAt, part}
 use Rattle.wire.specs.Search.{among}
 use Rattle.wire.proofs.Booleans.{and-right}
 use Rattle.algorithms.specs.Sizes.{publicKeyLength}
-use Rattle.keylist.specs.Layout.{Configuration, configurationAt, followedBy, isSkipped, keyIdAt, kemAt, layoutHolds, lengthAt, nextStart, pairBytesAt, pairsAt, parseFrom}
+use Rattle.keylist.specs.Before.{layoutHolds}
+use Rattle.keylist.specs.Layout.{Configuration, configurationAt, followedBy, isSkipped, keyIdAt, kemAt, lengthAt, nextStart, pairBytesAt, pairsAt, parseFrom}
 use Rattle.keylist.proofs.LayoutLaws.{Holds, Skipped, good-layout, held-not-skipped, skipped}
 use Rattle.keylist.proofs.Parsing.{goodAt, holding, parse-more, parse-skip, skipsFrom, skips-none, skips-one}
 

@@ -1,4 +1,4 @@
--- What check (02, A1) and the key reader (01, "Key reader: 15, 4") answer, as the list's configurations say.
+-- What check (02, A1) and the key reader (01, "Key reader") answer, as the list's configurations say; 02, A2, splits their 15 into 18 to 22.
 use Prim.Native.Nat.{ℕ, zero, suc, _+_, _-_}
 use mathlib.Core.List.{List, [], _∷_}
 use mathlib.Core.Option.{Option, none, some}
@@ -24,7 +24,7 @@ starts bytes = startsFrom mostConfigurations bytes 0
 abbrev pub skippedIn : List ℕ → ℕ
 skippedIn bytes = length (filtered (isSkipped bytes) (starts bytes))
 
--- check: how many configurations were read and how many skipped, or 15 with the place
+-- check: how many configurations were read and how many skipped, or what is wrong with the list
 abbrev pub checkedFrom : Result (List Configuration) → ℕ → Checked
 checkedFrom (good cs) skipped = Checked.Good (length cs) skipped
 checkedFrom (bad r) skipped = Checked.Refused r
@@ -41,7 +41,7 @@ abbrev pub keyPlace : Option Configuration → KeyPlace
 keyPlace none = KeyPlace.Refused (refused 4)
 keyPlace (some c) = KeyPlace.Found (keyStart (c .start)) (keyStart (c .start) + length (c .publicKey))
 
--- the key reader's checking entry: 15 with the place, or 4, or where the public key lies
+-- the key reader's checking entry: what is wrong with the list, or 4, or where the public key lies
 abbrev pub keyPlaceIn : ℕ → Result (List Configuration) → KeyPlace
 keyPlaceIn id (good cs) = keyPlace (configurationWith id cs)
 keyPlaceIn id (bad r) = KeyPlace.Refused r

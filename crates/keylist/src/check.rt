@@ -1,13 +1,10 @@
 // Reads a key list: whether it is good as a whole, and the fields of one configuration.
 ghost use mathlib.Core.Path.{_≡_};
-ghost use Prim.Native.Nat.{_<_, _≤_};
-ghost use mathlib.Core.Bool.{not};
+ghost use Prim.Native.Nat.{_+_, _^_, _<_, _≤_};
 ghost use lib.ListN.{length};
-ghost use Rattle.wire.specs.Tests.{_and_, pick};
-ghost use Rattle.wire.specs.Search.{among};
-ghost use Rattle.wire.specs.Refusals.{badList};
+ghost use Rattle.wire.specs.Refusals.{refusedAt};
 ghost use Rattle.algorithms.specs.Sizes.{publicKeyLength};
-ghost use Rattle.keylist.specs.Layout.{isSkipped, layoutHolds, pairBytesHold, keyIdAt, nextStart};
+ghost use Rattle.keylist.specs.Layout.{faultOf, fieldAtFault, isSkipped, kemAt, nextStart, pairBytesHold};
 ghost use Rattle.keylist.specs.Answers.{checked};
 ghost use Rattle.keylist.specs.Helpers.{firstRead, placeAt};
 use crate::Checked;
@@ -37,7 +34,7 @@ pub fn pair_bytes_hold(size: usize) -> bool
     size <= MOST_PAIR_BYTES
 }
 
-// Where the next configuration would start. This and the next two ask for an offset in the list, so that no sum wraps.
+// Where the next configuration would start. It asks for an offset in the list, so that no sum wraps.
 fn next_start(list: &[u8], at: usize) -> usize
     requires { ⌜ at < length (now list) ⌝ }
     ensures { λ r. ⌜ r ≡ nextStart (now (list .entry)) at ⌝ }
@@ -45,35 +42,56 @@ fn next_start(list: &[u8], at: usize) -> usize
     at + 2 + (word_at(list, at) as usize)
 }
 
-// The configuration at an offset of the list keeps the layout's rules.
-fn layout_holds(list: &[u8], at: usize) -> bool
-    requires { ⌜ at < length (now list) ⌝ }
-    ensures { λ r. ⌜ r ≡ layoutHolds (now (list .entry)) at ⌝ }
+// The first fault of the configuration at an offset of the list, whose KEM has such a key length, 0 where there is none or where it is
+// skipped; so many may still come.
+fn fault(list: &[u8], at: usize, key: usize, more: usize, taken: &[u8]) -> u8
+    requires { ⌜ (at < length (now list)) × (key ≡ publicKeyLength (kemAt (now list) at)) × (key ≤ 133) ⌝ }
+    ensures { λ r. ⌜ r ≡ faultOf more (now (taken .entry)) (now (list .entry)) at ⌝ }
 {
-    if list.len() < next_start(list, at) {
-        return false;
+    if more == 0 {
+        return Refusal::TOO_MANY_CONFIGURATIONS;
     }
-    let key = key_length(word_at(list, at + 3));
+    if list.len() < next_start(list, at) {
+        return Refusal::LIST_TRUNCATED;
+    }
+    let length = word_at(list, at) as usize;
+    if length < 3 {
+        return Refusal::LENGTH_MISMATCH;
+    }
     if key == 0 {
-        return false;
+        return 0;
+    }
+    if length < 5 + key {
+        return Refusal::LENGTH_MISMATCH;
     }
     let pair_bytes = word_at(list, at + 5 + key) as usize;
-    if (word_at(list, at) as usize) != 5 + key + pair_bytes {
-        return false;
+    if !pair_bytes_hold(pair_bytes) {
+        return Refusal::BAD_PAIR_LENGTH;
     }
-    pair_bytes_hold(pair_bytes)
+    if length != 5 + key + pair_bytes {
+        return Refusal::LENGTH_MISMATCH;
+    }
+    if has_byte(taken, byte_at(list, at + 2)) {
+        return Refusal::DUPLICATE_KEY_ID;
+    }
+    0
 }
 
-// The same, and its key id is not taken.
-fn is_good(list: &[u8], at: usize, taken: &[u8]) -> bool
-    requires { ⌜ at < length (now list) ⌝ }
-    ensures { λ r. ⌜ r ≡ (layoutHolds (now (list .entry)) at
-        and not (among (now (taken .entry)) (keyIdAt (now (list .entry)) at))) ⌝ }
+// The first byte of the field at fault of a configuration whose length stands at an offset and whose public key ends at another.
+pub fn field_at_fault(at: usize, end: usize, number: u8) -> usize
+    requires { ⌜ at + 3 < 2 ^ 64 ⌝ }
+    ensures { λ r. ⌜ r ≡ fieldAtFault at end number ⌝ }
 {
-    if !layout_holds(list, at) {
-        return false;
+    if number == Refusal::UNKNOWN_KEM {
+        return at + 3;
     }
-    !has_byte(taken, byte_at(list, at + 2))
+    if number == Refusal::BAD_PAIR_LENGTH {
+        return end;
+    }
+    if number == Refusal::DUPLICATE_KEY_ID {
+        return at + 2;
+    }
+    at
 }
 
 // The configuration at an offset is skipped: it lies whole in the list, has room for its KEM, and that is unknown.
@@ -108,45 +126,34 @@ pub fn first_read(list: &[u8], from: usize) -> usize
     at
 }
 
-// How many configurations of a list were read and how many skipped, or 15 with the place of the first bad one.
+// How many configurations of a list were read and how many skipped, or the first fault with its place.
 pub fn check(list: &[u8]) -> Checked
     ensures { λ r. ⌜ r ≡ checked (now (list .entry)) ⌝ }
 {
     if list.len() == 0 {
-        return Checked::Refused(Refusal::bad_list(0));
+        return Checked::Refused(Refusal::at(Refusal::LIST_TRUNCATED, 0));
     }
     let mut taken = [0u8; MOST_CONFIGURATIONS];
     let mut read = 0;
     let mut skipped = 0;
     let mut at = 0;
     while at < list.len() {
-        if MOST_CONFIGURATIONS <= read + skipped {
-            return Checked::Refused(Refusal::bad_list(at));
+        let key = key_length(word_at(list, at + 3));
+        let more = MOST_CONFIGURATIONS - (read + skipped);
+        let number = fault(list, at, key, more, &taken[..read]);
+        if number != 0 {
+            return Checked::Refused(Refusal::at(number, field_at_fault(at, at + 5 + key, number)));
         }
-        if is_skipped(list, at) {
+        if key == 0 {
             skipped += 1;
             at = next_start(list, at);
             continue;
-        }
-        if !is_good(list, at, &taken[..read]) {
-            return outcome(false, read, skipped, at);
         }
         taken[read] = byte_at(list, at + 2);
         read += 1;
         at = next_start(list, at);
     }
-    outcome(true, read, skipped, at)
-}
-
-// So many were read and skipped where the whole list is good; else 15 at the place, whatever was good before it.
-fn outcome(whole: bool, read: usize, skipped: usize, place: usize) -> Checked
-    ensures { λ r. ⌜ r ≡ pick whole (Checked.Good read skipped) (Checked.Refused (badList place)) ⌝ }
-{
-    if whole {
-        Checked::Good(read, skipped)
-    } else {
-        Checked::Refused(Refusal::bad_list(place))
-    }
+    Checked::Good(read, skipped)
 }
 
 // The fields of the configuration whose length stands at an offset, where its parts lie, and where the next one that is read starts.
@@ -173,7 +180,7 @@ pub fn place_at(list: &[u8], at: usize) -> Place
 }
 
 // Npk, 0 where the KEM is unknown.
-fn key_length(kem: u16) -> usize
+pub fn key_length(kem: u16) -> usize
     ensures { λ r. ⌜ r ≡ publicKeyLength kem ⌝ }
     ensures bound { λ r. ⌜ r ≤ 133 ⌝ }
 {

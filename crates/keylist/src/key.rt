@@ -11,7 +11,7 @@ use crate::check::first_read;
 use crate::check::place_at;
 use wire::refusal::Refusal;
 
-// The checking entry: 15 with the place, 4, or where the public key lies.
+// The checking entry: what is wrong with the list, with its place, 4, or where the public key lies.
 pub fn find(list: &[u8], id: KeyId) -> KeyPlace
     ensures { λ r. ⌜ r ≡ keyPlaceIn (id .0) (parse (now (list .entry))) ⌝ }
 {

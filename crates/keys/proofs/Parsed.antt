@@ -10,8 +10,8 @@ use lib.Dec.{eqb}
 use lib.ListN.{length}
 use Rattle.wire.specs.Search.{among, anyPasses}
 use Rattle.wire.proofs.Booleans.{either, and-right, true-or-false}
-use Rattle.keylist.specs.Layout.{Configuration, good, parse, configurationAt, layoutHolds, keyIdAt, mostConfigurations}
-use Rattle.keylist.proofs.Parsing.{by-reading}
+use Rattle.keylist.specs.Layout.{Configuration, good, parse, configurationAt, keyIdAt, mostConfigurations}
+use Rattle.keylist.proofs.Parsing.{by-reading, not-taken}
 use Rattle.keylist.proofs.Walk.{parse-all}
 
 -- no number stands twice
@@ -70,5 +70,5 @@ parsed bytes cs e =
     (λ more taken at rest k read p. parsed-skip more taken rest p)
     (λ more taken at rest g read p.
     parsed-one more taken (configurationAt bytes at) rest
-    (not-true _ (and-right (layoutHolds bytes at) (not (among taken (keyIdAt bytes at))) g)) p)
+    (not-taken bytes taken at g) p)
     mostConfigurations [] 0 cs (parse-all bytes cs e)

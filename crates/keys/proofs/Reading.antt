@@ -9,7 +9,8 @@ use lib.ListN.{length, set, length-append, length-map}
 use lib.Seq.{append-snoc}
 use Rattle.wire.specs.Bytes.{wordAt}
 use Rattle.keylist.specs.declared.Pair.{Pair}
-use Rattle.keylist.specs.Layout.{Configuration, good, parse, configurationAt, layoutHolds, keyIdAt, kemAt, pairBytesAt, pairsStart, nextStart, pairsAt, mostConfigurations}
+use Rattle.keylist.specs.Before.{layoutHolds}
+use Rattle.keylist.specs.Layout.{Configuration, good, parse, configurationAt, keyIdAt, kemAt, pairBytesAt, pairsStart, nextStart, pairsAt, mostConfigurations}
 use Rattle.keylist.specs.Helpers.{firstRead}
 use Rattle.keylist.proofs.LayoutLaws.{good-layout}
 use Rattle.keylist.proofs.Walk.{GoodFrom, walk-start, walk-next, walk-end}

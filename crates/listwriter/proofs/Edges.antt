@@ -7,12 +7,12 @@ use Rattle.algorithms.specs.Sizes.{knownKem, publicKeyLength}
 use Rattle.algorithms.specs.Table.{rowOf, table}
 use Rattle.keylist.specs.Answers.{startsFrom}
 use Rattle.keylist.specs.Edges.{edgeList, hex}
-use Rattle.keylist.specs.Layout.{configurationAt, isSkipped, layoutHolds, pairsAt, parse, parseFrom}
-use Rattle.listwriter.specs.Writer.{cut, encode, encodeBehind}
+use Rattle.keylist.specs.Layout.{configurationAt, faultOf, isSkipped, pairsAt, parse, parseFrom}
+use Rattle.listwriter.specs.Writer.{cut, encode, encodeBehind, faultOfGiven}
 use Rattle.listwriter.specs.Edges.{SkippedIsNotWritten}
 
 pub skipped-is-not-written : SkippedIsNotWritten
-unfolding edgeList hex parse parseFrom isSkipped layoutHolds configurationAt pairsAt knownKem publicKeyLength rowOf table firstPlace anyPasses filtered startsFrom encode encodeBehind cut flatMap
+unfolding edgeList hex parse parseFrom faultOf isSkipped configurationAt pairsAt knownKem publicKeyLength rowOf table firstPlace anyPasses filtered startsFrom encode encodeBehind faultOfGiven cut flatMap
 skipped-is-not-written =
     record {
       skipped = refl;

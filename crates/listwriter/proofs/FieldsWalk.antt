@@ -1,14 +1,13 @@
 -- The walk over the fields of the list writer: what the fields from an index on say, and how encoding goes on from there.
 -- Assumes nothing.
 use mathlib.Core.Path.{_≡_, refl, sym, ap, subst, _∙_}
-use mathlib.Core.Bool.{Bool, true, false, not}
+use mathlib.Core.Bool.{Bool, true, false}
 use mathlib.Core.List.{List, [], _∷_, _++_, append-assoc}
-use Prim.Native.Nat.{ℕ, zero, suc, _+_, _-_, _*_, _≤_, _<_}
-use mathlib.Core.Logic.{⊎-elim}
-use native.Mathlib.Nat.{add-zero, eq-or-lt-of-le}
+use Prim.Native.Nat.{ℕ, _+_, _*_, _≤_, _<_}
+use native.Mathlib.Nat.{add-zero}
 use native.Mathlib.Numerals.{add-one}
 use native.Mathlib.Omega.{arith}
-use borrow.Author.Tests.{eq-eqb, ne-eqb, leb-true, leb-false}
+use borrow.Author.Tests.{eq-eqb, ne-eqb, eqb-true, eqb-false, leb-true, leb-false}
 use borrow.Author.Needs.{needs}
 use lib.Dec.{eqb, leb}
 use lib.ListN.{length, getD, take, drop, length-drop, length-take, length-append, drop-of-length-le}
@@ -16,17 +15,17 @@ use lib.Seq.{drop-drop, drop-cons, getD-drop, take-suc, take-add, take-append-se
 use Rattle.wire.specs.Tests.{pick, _and_}
 use Rattle.wire.specs.Bytes.{withFront}
 use Rattle.wire.specs.Helpers.{overwritten}
-use Rattle.wire.specs.Search.{among}
-use Rattle.wire.specs.Refusals.{badList}
-use Rattle.wire.proofs.Booleans.{either, and-left}
+use Rattle.wire.specs.Refusals.{refusedAt}
+use Rattle.wire.proofs.Booleans.{either}
 use Rattle.wire.proofs.Writes.{front-more}
 use Rattle.algorithms.proofs.Stated.{size-bounds}
 use Rattle.listwriter.specs.declared.Written.{Written}
-use Rattle.keylist.specs.Layout.{good, bad, mostConfigurations, Result}
-use Rattle.listwriter.specs.Writer.{Fields, fieldsHold, noneLeft, encode}
-use Rattle.listwriter.specs.Helpers.{fieldsFrom, firstHolds, lengthWritten}
-use Rattle.keylist.proofs.Parsing.{no-refusal}
-use Rattle.listwriter.proofs.FlatFields.{firstKem, firstKeyLength, firstPairCount, behindFirst, lengthOf, firstLength, firstBytes, inFrontOf, encodeFrom, walk, first-says, first-size, same-fields, none-of}
+use Rattle.algorithms.specs.Sizes.{publicKeyLength}
+use Rattle.keylist.specs.Layout.{good, bad, keyStart, mostConfigurations, refusedFor, Result}
+use Rattle.listwriter.specs.Writer.{Fields, noneLeft, encode}
+use Rattle.listwriter.specs.Helpers.{faultAt, fieldsFrom, lengthWritten}
+use Rattle.keylist.proofs.Parsing.{no-refusal, refused-for}
+use Rattle.listwriter.proofs.FlatFields.{First, firstKem, firstKeyLength, firstPairCount, behindFirst, lengthOf, firstLength, firstBytes, firstFault, firstKeyEnd, inFrontOf, encodeFrom, walk, first-says, first-size, same-fields, none-of}
 use Rattle.listwriter.proofs.Cutting.{encode-is-walk}
 
 -- whether anything is left from a place on
@@ -58,10 +57,9 @@ module _ (f : Fields) (i k p : ℕ) where
   pub pair-count-from : firstPairCount (fieldsFrom f i k p) ≡ getD (f .pairCounts) i 0
   pair-count-from = number-from (f .pairCounts) i
 
-  pub holds-from : firstHolds (fieldsFrom f i k p)
-      ≡ fieldsHold (getD (f .kems) i 0) (getD (f .keyLengths) i 0) (length (f .keys) - k) (getD (f .pairCounts) i 0) (length (f .pairs) - p)
-  unfolding firstHolds
-  holds-from = rw (kem-from, key-length-from, pair-count-from, length-drop k (f .keys), length-drop p (f .pairs))
+  pub fault-from : (ids : List ℕ) → i ≤ length ids → firstFault (take i ids) (getD ids i 0) (fieldsFrom f i k p) ≡ faultAt ids f i k p
+  fault-from ids h =
+      rw (length-take-le i ids h, kem-from, key-length-from, pair-count-from, length-drop k (f .keys), length-drop p (f .pairs))
 
   pub behind-from : behindFirst (fieldsFrom f i k p)
       ≡ fieldsFrom f (i + 1) (k + getD (f .keyLengths) i 0) (p + getD (f .pairCounts) i 0)
@@ -71,43 +69,39 @@ module _ (f : Fields) (i k p : ℕ) where
       (drop-drop 1 i (f .pairCounts))
       (rw pair-count-from (drop-drop (getD (f .pairCounts) i 0) p (f .pairs)))
 
--- the bounds of a configuration that holds
-pub first-bounds : (f : Fields) → firstHolds f ≡ true → (firstKeyLength f ≤ 133) × ((firstPairCount f ≤ 32) × ((firstKeyLength f ≤ length (f .keys)) × (firstPairCount f ≤ length (f .pairs))))
+-- the bounds of a configuration that keeps the rules
+pub first-bounds : (f : Fields) → First f → (firstKeyLength f ≤ 133) × ((firstPairCount f ≤ 32) × ((firstKeyLength f ≤ length (f .keys)) × (firstPairCount f ≤ length (f .pairs))))
 first-bounds f h =
-    let (_, (size, (key, ((_, (_, (_, most))), pairs)))) = first-says f h in
+    let (_, (size, (key, ((_, (_, (_, most))), pairs)))) = h in
     let keys : firstKeyLength f ≤ length (f .keys) = omega (arith, rw length-take at key) in
     let numbers : firstPairCount f ≤ length (f .pairs) = omega (arith, rw length-take at pairs) in
     (omega (arith, size-bounds .keyBound (firstKem f)), (omega arith, (keys, numbers)))
 
 -- how encoding goes on
-pub encode-some : (ids : List ℕ) (f : Fields) → 0 < length ids → encode ids f ≡ encodeFrom mostConfigurations [] 0 ids f
+pub encode-some : (ids : List ℕ) (f : Fields) → 0 < length ids → encode ids f ≡ encodeFrom [] 0 ids f
 unfolding walk
 encode-some [] f h = absurd (omega arith)
 encode-some (id ∷ ids) f h = encode-is-walk (id ∷ ids) f
 
-pub encode-none : (ids : List ℕ) (f : Fields) → length ids ≡ 0 → encode ids f ≡ bad (badList 0)
+pub encode-none : (ids : List ℕ) (f : Fields) → length ids ≡ 0 → encode ids f ≡ bad (refusedAt 18 0)
 unfolding encode
 encode-none [] f h = refl
 encode-none (id ∷ ids) f h = absurd (omega arith)
 
-module _ (more : ℕ) (taken : List ℕ) (at : ℕ) (ids : List ℕ) (i : ℕ) (f : Fields) where
-  pub encode-end : length ids ≤ i → encodeFrom more taken at (drop i ids) f ≡ pick (noneLeft f) (good []) (bad (badList at))
+module _ (taken : List ℕ) (at : ℕ) (ids : List ℕ) (i : ℕ) (f : Fields) where
+  pub encode-end : length ids ≤ i → encodeFrom taken at (drop i ids) f ≡ pick (noneLeft f) (good []) (bad (refusedAt 19 at))
   unfolding encodeFrom
   encode-end h = rw (drop-of-length-le ids h)
 
-  pub encode-too-many : i < length ids → more ≡ 0 → encodeFrom more taken at (drop i ids) f ≡ bad (badList at)
+  pub encode-bad : i < length ids → (firstFault taken (getD ids i 0) f ≡ 0 → ⊥)
+      → encodeFrom taken at (drop i ids) f ≡ bad (refusedFor at (firstKeyEnd at f) (firstFault taken (getD ids i 0) f))
   unfolding encodeFrom
-  encode-too-many h e = rw (e, drop-cons ids i 0 h)
+  encode-bad h e = rw (drop-cons ids i 0 h) (refused-for at (firstKeyEnd at f) (firstFault taken (getD ids i 0) f) _ e)
 
-  pub encode-bad : i < length ids → (firstHolds f and not (among taken (getD ids i 0))) ≡ false
-      → encodeFrom more taken at (drop i ids) f ≡ bad (badList at)
-  unfolding encodeFrom
-  encode-bad h e = rw (drop-cons ids i 0 h) (elim more [ zero ↦ refl | suc n ↦ rw e ])
-
-  pub encode-more : i < length ids → (firstHolds f and not (among taken (getD ids i 0))) ≡ true
-      → encodeFrom (suc more) taken at (drop i ids) f
+  pub encode-more : i < length ids → firstFault taken (getD ids i 0) f ≡ 0
+      → encodeFrom taken at (drop i ids) f
       ≡ inFrontOf (firstBytes (getD ids i 0) f)
-      (encodeFrom more (taken ++ getD ids i 0 ∷ []) (at + 2 + firstLength f) (drop (i + 1) ids) (behindFirst f))
+      (encodeFrom (taken ++ getD ids i 0 ∷ []) (at + 2 + firstLength f) (drop (i + 1) ids) (behindFirst f))
   unfolding encodeFrom
   encode-more h e = rw (drop-cons ids i 0 h, e, add-one i)
 
@@ -139,7 +133,7 @@ pub record Within (ids : List ℕ) (f : Fields) (i at k p : ℕ) : Type 0 where
 pub within-start : (ids : List ℕ) (f : Fields) → Within ids f 0 0 0 0
 within-start ids f = search needs
 
-module _ (ids : List ℕ) (f : Fields) (i at k p : ℕ) (w : Within ids f i at k p) (holding : firstHolds (fieldsFrom f i k p) ≡ true) where
+module _ (ids : List ℕ) (f : Fields) (i at k p : ℕ) (w : Within ids f i at k p) (holding : First (fieldsFrom f i k p)) where
   -- the bounds of the configuration at the index
   pub bounds-from : (getD (f .keyLengths) i 0 ≤ 133) × ((getD (f .pairCounts) i 0 ≤ 32)
       × ((k + getD (f .keyLengths) i 0 ≤ length (f .keys)) × (p + getD (f .pairCounts) i 0 ≤ length (f .pairs))))
@@ -156,59 +150,61 @@ module _ (ids : List ℕ) (f : Fields) (i at k p : ℕ) (w : Within ids f i at k
       (k + getD (f .keyLengths) i 0) (p + getD (f .pairCounts) i 0)
   within-next h l = let b = bounds-from in search needs
 
--- the encoding from an index on, and the test of the configuration there
+-- the encoding from an index on
 abbrev pub encodeAt : List ℕ → Fields → ℕ → ℕ → ℕ → ℕ → Result (List ℕ)
-encodeAt ids f i at k p = encodeFrom (mostConfigurations - i) (take i ids) at (drop i ids) (fieldsFrom f i k p)
-
-abbrev pub writableAt : List ℕ → Fields → ℕ → ℕ → ℕ → Bool
-writableAt ids f i k p = firstHolds (fieldsFrom f i k p) and not (among (take i ids) (getD ids i 0))
+encodeAt ids f i at k p = encodeFrom (take i ids) at (drop i ids) (fieldsFrom f i k p)
 
 module _ (ids : List ℕ) (f : Fields) (i at k p : ℕ) where
-  pub at-too-many : i < length ids → i ≡ mostConfigurations → encodeAt ids f i at k p ≡ bad (badList at)
-  at-too-many h e = encode-too-many (mostConfigurations - i) (take i ids) at ids i (fieldsFrom f i k p) h (omega arith)
-
-  pub at-bad : i < length ids → writableAt ids f i k p ≡ false → encodeAt ids f i at k p ≡ bad (badList at)
-  at-bad h e = encode-bad (mostConfigurations - i) (take i ids) at ids i (fieldsFrom f i k p) h e
+  pub at-bad : i < length ids → (faultAt ids f i k p ≡ 0 → ⊥)
+      → encodeAt ids f i at k p ≡ bad (refusedFor at (keyStart at + publicKeyLength (getD (f .kems) i 0)) (faultAt ids f i k p))
+  at-bad h e =
+      let same = fault-from f i k p ids (omega arith) in
+      rw (← same, ← kem-from f i k p) (encode-bad (take i ids) at ids i (fieldsFrom f i k p) h (λ z. e (sym same ∙ z)))
 
   pub at-end : length ids ≤ i → noneLeft (fieldsFrom f i k p) ≡ true → encodeAt ids f i at k p ≡ good []
-  at-end h e = encode-end (mostConfigurations - i) (take i ids) at ids i (fieldsFrom f i k p) h ∙ rw e
+  at-end h e = encode-end (take i ids) at ids i (fieldsFrom f i k p) h ∙ rw e
 
-  pub at-left-over : length ids ≤ i → noneLeft (fieldsFrom f i k p) ≡ false → encodeAt ids f i at k p ≡ bad (badList at)
-  at-left-over h e = encode-end (mostConfigurations - i) (take i ids) at ids i (fieldsFrom f i k p) h ∙ rw e
+  pub at-left-over : length ids ≤ i → noneLeft (fieldsFrom f i k p) ≡ false → encodeAt ids f i at k p ≡ bad (refusedAt 19 at)
+  at-left-over h e = encode-end (take i ids) at ids i (fieldsFrom f i k p) h ∙ rw e
 
-  pub at-more : i < length ids → i < mostConfigurations → writableAt ids f i k p ≡ true
+  -- no fault: it may still come, and it keeps the rules
+  pub at-says : i < length ids → faultAt ids f i k p ≡ 0 → (i < mostConfigurations) × First (fieldsFrom f i k p)
+  at-says h e =
+      let (few, (is, _)) = first-says (take i ids) (getD ids i 0) (fieldsFrom f i k p) (fault-from f i k p ids (omega arith) ∙ e) in
+      (omega (arith, length-take-le i ids (omega arith)), is)
+
+  pub at-more : i < length ids → faultAt ids f i k p ≡ 0
       → encodeAt ids f i at k p
       ≡ inFrontOf (firstBytes (getD ids i 0) (fieldsFrom f i k p))
       (encodeAt ids f (i + 1) (at + 2 + lengthOf (getD (f .keyLengths) i 0) (getD (f .pairCounts) i 0))
       (k + getD (f .keyLengths) i 0) (p + getD (f .pairCounts) i 0))
-  at-more h l e =
-      let fuel : mostConfigurations - i ≡ suc (mostConfigurations - (i + 1)) = omega arith in
+  at-more h e =
       let ids′ : take (i + 1) ids ≡ take i ids ++ getD ids i 0 ∷ [] = rw (add-one i) (take-suc ids i 0 h) in
       let size : firstLength (fieldsFrom f i k p) ≡ lengthOf (getD (f .keyLengths) i 0) (getD (f .pairCounts) i 0) =
       rw (key-length-from f i k p, pair-count-from f i k p) in
-      rw (fuel, ids′, ← behind-from f i k p, ← size) (encode-more (mostConfigurations - (i + 1)) (take i ids) at ids i (fieldsFrom f i k p) h e)
+      rw (ids′, ← behind-from f i k p, ← size) (encode-more (take i ids) at ids i (fieldsFrom f i k p) h (fault-from f i k p ids (omega arith) ∙ e))
 
-  pub at-size : firstHolds (fieldsFrom f i k p) ≡ true → (id : ℕ)
+  pub at-size : First (fieldsFrom f i k p) → (id : ℕ)
       → length (firstBytes id (fieldsFrom f i k p)) ≡ 2 + lengthOf (getD (f .keyLengths) i 0) (getD (f .pairCounts) i 0)
   at-size h id = rw (← key-length-from f i k p, ← pair-count-from f i k p) (first-size id (fieldsFrom f i k p) h)
 
-  pub length-more : i < length ids → i < mostConfigurations → writableAt ids f i k p ≡ true
+  pub length-more : i < length ids → faultAt ids f i k p ≡ 0
       → lengthFrom at (encodeAt ids f i at k p)
       ≡ lengthFrom (at + 2 + lengthOf (getD (f .keyLengths) i 0) (getD (f .pairCounts) i 0))
       (encodeAt ids f (i + 1) (at + 2 + lengthOf (getD (f .keyLengths) i 0) (getD (f .pairCounts) i 0))
       (k + getD (f .keyLengths) i 0) (p + getD (f .pairCounts) i 0))
-  length-more h l e =
+  length-more h e =
       let front = firstBytes (getD ids i 0) (fieldsFrom f i k p) in
       let next = at + 2 + lengthOf (getD (f .keyLengths) i 0) (getD (f .pairCounts) i 0) in
       let rest = encodeAt ids f (i + 1) next (k + getD (f .keyLengths) i 0) (p + getD (f .pairCounts) i 0) in
-      let size = at-size (and-left (firstHolds (fieldsFrom f i k p)) (not (among (take i ids) (getD ids i 0))) e) (getD ids i 0) in
+      let size = at-size (at-says h e .1) (getD ids i 0) in
       let sum : at + length front ≡ next = rw size (omega arith) in
-      ap (lengthFrom at) (at-more h l e) ∙ length-from-more at front rest ∙ ap (λ (n : ℕ). lengthFrom n rest) sum
+      ap (lengthFrom at) (at-more h e) ∙ length-from-more at front rest ∙ ap (λ (n : ℕ). lengthFrom n rest) sum
 
--- where encoding goes well and a configuration is left, its test passed and the bytes behind it are those of the others
+-- where encoding goes well and a configuration is left, it has no fault and the bytes behind it are those of the others
 pub record MoreGood (ids : List ℕ) (f : Fields) (i at k p : ℕ) (bytes : List ℕ) : Type 0 where
   pub limit : i < mostConfigurations
-  pub writable : writableAt ids f i k p ≡ true
+  pub holding : First (fieldsFrom f i k p)
   pub rest : List ℕ
   pub encoded :
       encodeAt ids f (i + 1) (at + 2 + lengthOf (getD (f .keyLengths) i 0) (getD (f .pairCounts) i 0))
@@ -221,17 +217,17 @@ front-split front (good rest) bytes e = (rest, refl, cc)
 front-split front (bad r) bytes e = no-refusal e
 
 module _ (ids : List ℕ) (f : Fields) (i at k p : ℕ) (bytes : List ℕ) (e : encodeAt ids f i at k p ≡ good bytes) where
-  pub more-good : i < length ids → i ≤ mostConfigurations → MoreGood ids f i at k p bytes
-  more-good h l =
-      let below : i < mostConfigurations =
-      ⊎-elim (λ z. no-refusal (sym (at-too-many ids f i at k p h z) ∙ e)) (λ b. b) (eq-or-lt-of-le l) in
-      let passes : writableAt ids f i k p ≡ true =
-      either (writableAt ids f i k p) (λ t. t) (λ t. no-refusal (sym (at-bad ids f i at k p h t) ∙ e)) in
+  pub more-good : i < length ids → MoreGood ids f i at k p bytes
+  more-good h =
+      let none : faultAt ids f i k p ≡ 0 =
+      either (eqb (faultAt ids f i k p) 0) (λ t. eqb-true (faultAt ids f i k p) 0 t)
+      (λ t. no-refusal (sym (at-bad ids f i at k p h (eqb-false (faultAt ids f i k p) 0 t)) ∙ e)) in
+      let says = at-says ids f i at k p h none in
       let s =
       front-split (firstBytes (getD ids i 0) (fieldsFrom f i k p))
       (encodeAt ids f (i + 1) (at + 2 + lengthOf (getD (f .keyLengths) i 0) (getD (f .pairCounts) i 0))
-      (k + getD (f .keyLengths) i 0) (p + getD (f .pairCounts) i 0)) bytes (sym (at-more ids f i at k p h below passes) ∙ e) in
-      record { limit = below; writable = passes; rest = s .0; encoded = s .1; split = s .2 }
+      (k + getD (f .keyLengths) i 0) (p + getD (f .pairCounts) i 0)) bytes (sym (at-more ids f i at k p h none) ∙ e) in
+      record { limit = says .0; holding = says .1; rest = s .0; encoded = s .1; split = s .2 }
 
   pub end-good : length ids ≤ i → bytes ≡ []
   end-good h =

@@ -1,7 +1,7 @@
 -- Reading by the layout gives back what was written: specs/Stated's ReadAfterWrite.
 -- Assumes nothing.
 use mathlib.Core.Path.{_≡_, refl, sym, ap, ap₂, _∙_}
-use mathlib.Core.Bool.{Bool, true, false, not}
+use mathlib.Core.Bool.{true, false}
 use mathlib.Core.List.{List, [], _∷_, _++_, append-assoc, flatMap}
 use Prim.Native.Nat.{ℕ, zero, suc, _+_, _*_, _/_, _≤_}
 use native.Mathlib.Nat.{add-assoc, add-zero, div-add-mod'}
@@ -10,22 +10,21 @@ use lib.Dec.{eqb}
 use lib.ListN.{length, getD, drop, take-append-drop, length-append, length-drop}
 use lib.Seq.{take-at, drop-at, drop-drop, getD-drop}
 use borrow.Author.Tests.{le-leb, eq-eqb, eqb-true}
-use Rattle.wire.specs.Tests.{pick, _and_}
+use Rattle.wire.specs.Tests.{_and_}
 use Rattle.wire.specs.Bytes.{byteAt, wordAt, wordBytes}
 use Rattle.wire.specs.Search.{firstPlace, among}
-use Rattle.wire.specs.Refusals.{badList}
 use Rattle.listwriter.proofs.Words.{words-length}
-use Rattle.wire.proofs.Booleans.{true-or-false, and-left, and-right}
+use Rattle.wire.proofs.Booleans.{true-or-false}
 use Rattle.algorithms.specs.Table.{table, rowOf}
 use Rattle.algorithms.specs.Sizes.{knownKem, publicKeyLength}
 use Rattle.algorithms.proofs.Stated.{size-bounds}
-use Rattle.keylist.specs.Layout.{Configuration, good, bad, lengthAt, keyIdAt, kemAt, keyStart, keyEnd, pairBytesAt, pairsAt, pairsStart, configurationAt, layoutHolds, parseFrom, parse, mostConfigurations, Result}
+use Rattle.keylist.specs.Before.{layoutHolds}
+use Rattle.keylist.specs.Layout.{Configuration, good, bad, lengthAt, keyIdAt, kemAt, keyStart, keyEnd, pairBytesAt, pairsAt, pairsStart, configurationAt, parseFrom, parse, mostConfigurations, unlessFault, Result}
 use Rattle.keylist.proofs.LayoutLaws.{both, held-not-skipped, holds}
 use Rattle.keylist.proofs.Parsing.{no-refusal, parse-end, parse-more, skips-end, skips-none, skipsFrom}
 use Rattle.listwriter.specs.Writer.{Fields, noneLeft, wordsBytes}
-use Rattle.listwriter.specs.Helpers.{firstHolds}
 use Rattle.listwriter.specs.Stated.{pairNumbers, idsOf, asFields, ReadAfterWrite}
-use Rattle.listwriter.proofs.FlatFields.{firstKem, firstKeyLength, firstKey, firstPairCount, firstPairs, behindFirst, firstLength, firstBytes, inFrontOf, encodeFrom, walk, same-fields, First, first-says, behindKey, firstLaid, first-laid, none-of, end-given}
+use Rattle.listwriter.proofs.FlatFields.{firstKem, firstKeyLength, firstKey, firstPairCount, firstPairs, behindFirst, firstLength, firstBytes, firstFault, firstKeyEnd, inFrontOf, encodeFrom, walk, same-fields, First, first-says, behindKey, firstLaid, first-laid, none-of, end-given}
 use Rattle.listwriter.proofs.Cutting.{encode-is-walk}
 
 module _ (bytes : List ℕ) where
@@ -133,24 +132,23 @@ module _ (bytes : List ℕ) (at id : ℕ) (f : Fields) (rest : List ℕ) (says :
       (rw (pairs-read, pairs, ap (λ g. g .pairCounts) e) (first-and-rest (f .pairCounts) (λ z. omega arith)))
       (rw (pairs-read, ap (λ g. g .pairs) e) (take-append-drop (firstPairCount f) (f .pairs)))
 
-  read-first : (more : ℕ) (taken ids : List ℕ) → not (among taken id) ≡ true
+  read-first : (more : ℕ) (taken ids : List ℕ) → among taken id ≡ false
       → ReadBack more (taken ++ id ∷ []) bytes (at + 2 + firstLength f) ids (behindFirst f) → ReadBack (suc more) taken bytes at (id ∷ ids) f
   unfolding configurationAt
   read-first more taken ids fresh (cs, parsed, none, sameIds, sameFields) = (
     configurationAt bytes at ∷ cs,
-    rw (parse-more more taken bytes at (rw (layout-read, id-read) fresh), id-read, size-read, parsed),
+    rw (parse-more more taken bytes at (rw (layout-read, id-read, fresh)), id-read, size-read, parsed),
     skips-none more bytes at (omega (arith, inside)) (held-not-skipped bytes at (holds bytes at layout-read)) ∙ rw size-read none,
     ap₂ (λ i is. i ∷ is) id-read sameIds,
     fields-read cs sameFields,
   )
 
--- a result comes from no refusal, so the tests on its way held
-front-given : (test : Bool) (front : List ℕ) (o : Result (List ℕ)) (at : ℕ) {bytes : List ℕ}
-    → pick test (inFrontOf front o) (bad (badList at)) ≡ good bytes
-    → (rest : List ℕ) × (test ≡ true) × (o ≡ good rest) × (front ++ rest ≡ bytes)
-front-given true front (good rest) at e = (rest, refl, refl, cc)
-front-given true front (bad r) at e = no-refusal e
-front-given false front o at e = no-refusal e
+-- a result comes from no refusal, so there was no fault on its way
+front-given : (fault at end : ℕ) (front : List ℕ) (o : Result (List ℕ)) {bytes : List ℕ} → unlessFault at end fault (inFrontOf front o) ≡ good bytes
+    → (rest : List ℕ) × (fault ≡ 0) × (o ≡ good rest) × (front ++ rest ≡ bytes)
+front-given zero at end front (good rest) e = (rest, refl, refl, cc)
+front-given zero at end front (bad r) e = no-refusal e
+front-given (suc n) at end front o e = no-refusal e
 
 -- where nothing is left
 empty : (numbers : List ℕ) → eqb (length numbers) 0 ≡ true → [] ≡ numbers
@@ -167,27 +165,30 @@ none-left f h =
 
 -- reading from an offset gives back what was written there
 read-from : (more : ℕ) (taken bytes : List ℕ) (at : ℕ) (ids : List ℕ) (f : Fields)
-    → encodeFrom more taken at ids f ≡ good (drop at bytes) → ReadBack more taken bytes at ids f
+    → length taken + more ≡ mostConfigurations → encodeFrom taken at ids f ≡ good (drop at bytes) → ReadBack more taken bytes at ids f
 unfolding encodeFrom configurationAt
-read-from more taken bytes at [] f e =
+read-from more taken bytes at [] f few e =
     let (none, nothing) = end-given (noneLeft f) at e in
     let end : length bytes ≤ at = omega (arith, rw length-drop at (ap length nothing)) in
     ([], parse-end more taken bytes at end, skips-end more bytes at end, refl, none-left f none)
-read-from zero taken bytes at (id ∷ ids) f e = no-refusal e
-read-from (suc more) taken bytes at (id ∷ ids) f e =
-    let encodedRest = encodeFrom more (taken ++ id ∷ []) (at + 2 + firstLength f) ids (behindFirst f) in
-    let (rest, test, encoded, front) = front-given (firstHolds f and not (among taken id)) (firstBytes id f) encodedRest at e in
-    let says = first-says f (and-left (firstHolds f) (not (among taken id)) test) in
+read-from zero taken bytes at (id ∷ ids) f few e =
+    let encodedRest = encodeFrom (taken ++ id ∷ []) (at + 2 + firstLength f) ids (behindFirst f) in
+    let given = front-given (firstFault taken id f) at (firstKeyEnd at f) (firstBytes id f) encodedRest e in
+    absurd (omega (arith, few, first-says taken id f (given .1) .0))
+read-from (suc more) taken bytes at (id ∷ ids) f few e =
+    let encodedRest = encodeFrom (taken ++ id ∷ []) (at + 2 + firstLength f) ids (behindFirst f) in
+    let (rest, none, encoded, front) = front-given (firstFault taken id f) at (firstKeyEnd at f) (firstBytes id f) encodedRest e in
+    let (_, (says, fresh)) = first-says taken id f none in
     let there = sym front ∙ first-laid id f rest in
     let next = rest-read bytes at id f rest says there in
-    read-first bytes at id f rest says there more taken ids (and-right (firstHolds f) (not (among taken id)) test)
-    (read-from more (taken ++ id ∷ []) bytes (at + 2 + firstLength f) ids (behindFirst f) (encoded ∙ ap good (sym next)))
+    read-first bytes at id f rest says there more taken ids fresh
+    (read-from more (taken ++ id ∷ []) bytes (at + 2 + firstLength f) ids (behindFirst f) (rw length-append (omega (arith, few))) (encoded ∙ ap good (sym next)))
 
 pub read-after-write : ReadAfterWrite
 unfolding walk parse
 read-after-write [] f bytes e = no-refusal (sym (encode-is-walk [] f) ∙ e)
 read-after-write (id ∷ ids) f [] e =
-    let (cs, parsed, _, sameIds, _) = read-from mostConfigurations [] [] 0 (id ∷ ids) f (sym (encode-is-walk (id ∷ ids) f) ∙ e) in
+    let (cs, parsed, _, sameIds, _) = read-from mostConfigurations [] [] 0 (id ∷ ids) f refl (sym (encode-is-walk (id ∷ ids) f) ∙ e) in
     let nothing : [] ≡ cs = cc (parse-end mostConfigurations [] [] 0 (omega arith)) in
     absurd (omega (arith, ap length (rw (← nothing) at sameIds)))
-read-after-write (id ∷ ids) f (b ∷ bytes) e = read-from mostConfigurations [] (b ∷ bytes) 0 (id ∷ ids) f (sym (encode-is-walk (id ∷ ids) f) ∙ e)
+read-after-write (id ∷ ids) f (b ∷ bytes) e = read-from mostConfigurations [] (b ∷ bytes) 0 (id ∷ ids) f refl (sym (encode-is-walk (id ∷ ids) f) ∙ e)

@@ -1,7 +1,7 @@
 -- Writing what was read by the layout gives the same bytes, where none was skipped: specs/Stated's WriteAfterRead.
 -- Assumes nothing.
 use mathlib.Core.Path.{_≡_, refl, sym, _∙_}
-use mathlib.Core.Bool.{true, not}
+use mathlib.Core.Bool.{true, false}
 use mathlib.Core.List.{List, [], _∷_, _++_, flatMap}
 use Prim.Native.Nat.{ℕ, zero, suc, _+_, _*_, _/_, _%_, _≤_, _<_}
 use native.Mathlib.Nat.{add-assoc, add-zero}
@@ -10,19 +10,17 @@ use native.Mathlib.Omega.{arith}
 use lib.Dec.{leb}
 use lib.ListN.{length, drop, take-append-drop, length-append, length-drop, drop-of-length-le}
 use lib.Seq.{length-take-le, take-append-seam, drop-append-seam, drop-drop, drop-cons}
-use borrow.Author.Tests.{le-leb, eq-eqb}
+use borrow.Author.Tests.{le-leb, lt-leb, eq-eqb}
 use Rattle.wire.specs.Tests.{_and_}
 use Rattle.wire.specs.Bytes.{byteAt, wordAt, wordBytes, part}
-use Rattle.listwriter.specs.Writer.{wordsBytes}
+use Rattle.listwriter.specs.Writer.{faultOfGiven, wordsBytes}
 use Rattle.wire.specs.Search.{among}
-use Rattle.wire.proofs.Booleans.{and-right}
 use Rattle.algorithms.specs.Sizes.{knownKem, publicKeyLength}
-use Rattle.keylist.specs.Layout.{Configuration, good, lengthAt, keyIdAt, kemAt, keyStart, keyEnd, pairBytesAt, pairsAt, pairsStart, nextStart, configurationAt, pairBytesHold, layoutHolds, parseFrom, parse, mostConfigurations, Result}
+use Rattle.keylist.specs.Layout.{Configuration, good, lengthAt, keyIdAt, kemAt, keyStart, keyEnd, pairBytesAt, pairsAt, pairsStart, nextStart, configurationAt, pairBytesHold, parseFrom, parse, mostConfigurations, Result}
 use Rattle.keylist.proofs.LayoutLaws.{Holds, held-not-skipped}
-use Rattle.keylist.proofs.Parsing.{by-reading, holding, no-refusal, skipsFrom, skips-one, skips-none}
-use Rattle.listwriter.specs.Helpers.{firstHolds}
+use Rattle.keylist.proofs.Parsing.{by-reading, holding, no-refusal, not-taken, skipsFrom, skips-one, skips-none}
 use Rattle.listwriter.specs.Stated.{AreBytes, pairNumbers, idsOf, asFields, WriteAfterRead}
-use Rattle.listwriter.proofs.FlatFields.{behindFirst, firstLength, firstBytes, encodeFrom, walk, same-fields, first-laid}
+use Rattle.listwriter.proofs.FlatFields.{behindFirst, firstLength, firstBytes, firstFault, encodeFrom, walk, same-fields, first-laid}
 use Rattle.listwriter.proofs.Cutting.{encode-is-walk}
 
 module _ (bytes : List ℕ) where
@@ -65,10 +63,13 @@ module _ (c : Configuration) (cs : List Configuration) where
       (drop-append-seam (pairNumbers (c .pairs)) (flatMap (λ c. pairNumbers (c .pairs)) cs))
 
   first-holds : knownKem (c .kem) ≡ true → length (c .publicKey) ≡ publicKeyLength (c .kem)
-      → pairBytesHold (length (pairNumbers (c .pairs)) * 2) ≡ true → firstHolds (asFields (c ∷ cs)) ≡ true
-  unfolding firstHolds flatMap
-  first-holds known key pairs =
+      → pairBytesHold (length (pairNumbers (c .pairs)) * 2) ≡ true
+      → (taken : List ℕ) → length taken < mostConfigurations → among taken (c .keyId) ≡ false → firstFault taken (c .keyId) (asFields (c ∷ cs)) ≡ 0
+  unfolding faultOfGiven flatMap
+  first-holds known key pairs taken few fresh =
       rw (
+        lt-leb mostConfigurations (length taken) few,
+        fresh,
         known,
         eq-eqb (length (c .publicKey)) (publicKeyLength (c .kem)) key,
         enough (c .publicKey) (flatMap (λ c. c .publicKey) cs),
@@ -115,34 +116,35 @@ module _ (bytes : List ℕ) (all : AreBytes bytes) (at : ℕ) (says : Holds byte
       )
       head-written
 
-  write-first : (more : ℕ) (taken : List ℕ) → not (among taken (keyIdAt bytes at)) ≡ true
-      → encodeFrom more (taken ++ keyIdAt bytes at ∷ []) (nextStart bytes at) (idsOf cs) (asFields cs) ≡ good (drop (nextStart bytes at) bytes)
-      → encodeFrom (suc more) taken at (idsOf (configurationAt bytes at ∷ cs)) (asFields (configurationAt bytes at ∷ cs)) ≡ good (drop at bytes)
+  write-first : (taken : List ℕ) → length taken < mostConfigurations → among taken (keyIdAt bytes at) ≡ false
+      → encodeFrom (taken ++ keyIdAt bytes at ∷ []) (nextStart bytes at) (idsOf cs) (asFields cs) ≡ good (drop (nextStart bytes at) bytes)
+      → encodeFrom taken at (idsOf (configurationAt bytes at ∷ cs)) (asFields (configurationAt bytes at ∷ cs)) ≡ good (drop at bytes)
   unfolding encodeFrom configurationAt
-  write-first more taken fresh encoded =
-      let holds = first-holds (configurationAt bytes at) cs (says .kem) key-length (rw pairs-size (says .pairs .0)) in
-      rw (bytes-written, holds, fresh, size-written, behind-first (configurationAt bytes at) cs, encoded)
+  write-first taken few fresh encoded =
+      let none = first-holds (configurationAt bytes at) cs (says .kem) key-length (rw pairs-size (says .pairs .0)) taken few fresh in
+      rw (bytes-written, none, size-written, behind-first (configurationAt bytes at) cs, encoded)
 
 -- writing what was read from an offset gives the bytes from there on
 write-from : (bytes : List ℕ) (more : ℕ) (taken : List ℕ) (at : ℕ) (cs : List Configuration) → AreBytes bytes → parseFrom more taken bytes at ≡ good cs
-    → skipsFrom more bytes at ≡ 0 → encodeFrom more taken at (idsOf cs) (asFields cs) ≡ good (drop at bytes)
+    → length taken + more ≡ mostConfigurations → skipsFrom more bytes at ≡ 0 → encodeFrom taken at (idsOf cs) (asFields cs) ≡ good (drop at bytes)
 unfolding encodeFrom flatMap
 write-from bytes more taken at cs all =
     by-reading bytes
-    (λ more taken at cs. skipsFrom more bytes at ≡ 0 → encodeFrom more taken at (idsOf cs) (asFields cs) ≡ good (drop at bytes))
-    (λ more taken at h none. rw (drop-of-length-le bytes h))
-    (λ more taken at cs k parsed written none. absurd (omega (arith, none, skips-one more bytes at k)))
-    (λ more taken at cs g parsed written none.
+    (λ more taken at cs.
+    length taken + more ≡ mostConfigurations → skipsFrom more bytes at ≡ 0 → encodeFrom taken at (idsOf cs) (asFields cs) ≡ good (drop at bytes))
+    (λ more taken at h few none. rw (drop-of-length-le bytes h))
+    (λ more taken at cs k parsed written few none. absurd (omega (arith, none, skips-one more bytes at k)))
+    (λ more taken at cs g parsed written few none.
     let h = holding bytes taken at g in
-    write-first bytes all at h cs more taken (and-right (layoutHolds bytes at) (not (among taken (keyIdAt bytes at))) g)
-    (written (sym (skips-none more bytes at (omega (arith, h .whole)) (held-not-skipped bytes at h)) ∙ none)))
+    write-first bytes all at h cs taken (omega (arith, few)) (not-taken bytes taken at g)
+    (written (rw length-append (omega (arith, few))) (sym (skips-none more bytes at (omega (arith, h .whole)) (held-not-skipped bytes at h)) ∙ none)))
     more taken at cs
 
 pub write-after-read : WriteAfterRead
 unfolding walk parse encodeFrom flatMap
 write-after-read [] cs all none e = no-refusal e
 write-after-read (b ∷ bytes) [] all none e =
-    let written : _≡_ {A = Result (List ℕ)} (good []) (good (b ∷ bytes)) = write-from (b ∷ bytes) mostConfigurations [] 0 [] all e none in
+    let written : _≡_ {A = Result (List ℕ)} (good []) (good (b ∷ bytes)) = write-from (b ∷ bytes) mostConfigurations [] 0 [] all e refl none in
     absurd (let z : _≡_ {A = ℕ} 0 1 = cc in omega arith)
 write-after-read (b ∷ bytes) (c ∷ cs) all none e =
-    encode-is-walk (idsOf (c ∷ cs)) (asFields (c ∷ cs)) ∙ write-from (b ∷ bytes) mostConfigurations [] 0 (c ∷ cs) all e none
+    encode-is-walk (idsOf (c ∷ cs)) (asFields (c ∷ cs)) ∙ write-from (b ∷ bytes) mostConfigurations [] 0 (c ∷ cs) all e refl none

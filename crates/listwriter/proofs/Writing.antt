@@ -1,7 +1,6 @@
 -- The list writer's second walk, over fields that are known to make a list that fits: what stands in the buffer at each index.
 -- Assumes nothing.
 use mathlib.Core.Path.{_≡_, refl, sym, ap, _∙_}
-use mathlib.Core.Bool.{true, not}
 use mathlib.Core.List.{List, []}
 use Prim.Native.Nat.{ℕ, _+_, _-_, _≤_, _<_}
 use native.Mathlib.Omega.{arith}
@@ -10,16 +9,14 @@ use lib.ListN.{length, getD, take, drop, length-drop, length-take, length-append
 use lib.Seq.{take-all, drop-at, drop-drop, length-take-le}
 use Rattle.wire.specs.Bytes.{withFront}
 use Rattle.wire.specs.Helpers.{overwritten}
-use Rattle.wire.specs.Search.{among}
-use Rattle.wire.proofs.Booleans.{and-left}
 use Rattle.wire.proofs.Writes.{front-length}
 use Rattle.keylist.specs.Layout.{good, bad, mostConfigurations, Result}
 use Rattle.listwriter.specs.Writer.{Fields, configurationBytes, encode, writtenIn, writtenTo}
-use Rattle.listwriter.specs.Helpers.{fieldsFrom, firstHolds, lengthWritten, Fitting}
+use Rattle.listwriter.specs.Helpers.{fieldsFrom, lengthWritten, Fitting}
 use Rattle.listwriter.specs.declared.Written.{Written}
 use Rattle.wire.specs.declared.refusal.Refusal.{Refusal}
 use Rattle.wire.specs.Refusals.{refused}
-use Rattle.listwriter.proofs.FlatFields.{firstBytes, lengthOf}
+use Rattle.listwriter.proofs.FlatFields.{First, firstBytes, lengthOf}
 use Rattle.listwriter.proofs.FieldsWalk.{Within, within-start, within-next, bounds-from, kem-from, key-length-from, pair-count-from, encodeAt, MoreGood, more-good, end-good, at-size, written-more, encode-some, some-ids}
 
 pub record Writing (ids : List ℕ) (f : Fields) (start buffer : List ℕ) (i at k p : ℕ) : Type 0 where
@@ -74,10 +71,10 @@ module _ {ids : List ℕ} {f : Fields} {start buffer : List ℕ} {i at k p : ℕ
 
   module _ (h : i < length ids) where
     more : MoreGood ids f i at k p (drop at (w .bytes))
-    more = more-good ids f i at k p (drop at (w .bytes)) (w .rest) h (w .within .limit)
+    more = more-good ids f i at k p (drop at (w .bytes)) (w .rest) h
 
-    holding : firstHolds (fieldsFrom f i k p) ≡ true
-    holding = and-left (firstHolds (fieldsFrom f i k p)) (not (among (take i ids) (getD ids i 0))) (more .writable)
+    holding : First (fieldsFrom f i k p)
+    holding = more .holding
 
     pub writing-limit : i < mostConfigurations
     writing-limit = more .limit

@@ -1,16 +1,16 @@
--- 01, "List writer": the fields are cut into configurations, and each is written by the layout or refused. The fields are lists: key ids,
+-- 01, "List writer", with 02, A2: the fields are cut into configurations, and each is written by the layout or refused. The fields are lists: key ids,
 -- KEMs, public key lengths, the key bytes of all, how many pair numbers each has, and the pair numbers of all, KDF and AEAD by turns.
 use Prim.Native.Nat.{ℕ, _+_, _*_}
 use mathlib.Core.Bool.{Bool, not}
 use mathlib.Core.List.{List, [], _∷_, _++_}
-use lib.Dec.{eqb, leb, ltb}
+use lib.Dec.{eqb, leb}
 use lib.ListN.{length, getD, take, drop}
 use Rattle.wire.specs.Tests.{pick, _and_}
 use Rattle.wire.specs.Bytes.{wordBytes, withFront}
 use Rattle.wire.specs.Search.{among}
-use Rattle.wire.specs.Refusals.{badList, refused}
+use Rattle.wire.specs.Refusals.{_when_otherwise_, refused, refusedAt}
 use Rattle.algorithms.specs.Sizes.{knownKem, publicKeyLength}
-use Rattle.keylist.specs.Layout.{good, bad, mostConfigurations, pairBytesHold, Result}
+use Rattle.keylist.specs.Layout.{good, bad, keyStart, mostConfigurations, pairBytesHold, unlessFault, Result}
 use Rattle.listwriter.specs.declared.Written.{Written}
 
 -- the fields beside the key ids
@@ -53,14 +53,17 @@ abbrev pub wordsBytes : List ℕ → List ℕ
 wordsBytes [] = []
 wordsBytes (n ∷ ns) = wordBytes n ++ wordsBytes ns
 
--- the layout's rules for one configuration: its KEM, the key bytes announced and there, the pair numbers announced and there
-abbrev pub fieldsHold : ℕ → ℕ → ℕ → ℕ → ℕ → Bool
-fieldsHold kem keyLength keysThere pairCount pairsThere =
-    knownKem kem
-    and eqb keyLength (publicKeyLength kem)
-    and leb keyLength keysThere
-    and pairBytesHold (pairCount * 2)
-    and leb pairCount pairsThere
+-- 02, A2: "the writer's order is 18 (none given), 22, 3 (unknown KEM, at the KEM), 19 (public key of wrong length), 20, 21, then 14". The
+-- first fault of a configuration that is given behind so many others, its key id taken or not, with the key bytes announced and there and the
+-- pair numbers announced and there; 0 where it has none
+unfoldable pub faultOfGiven : ℕ → Bool → ℕ → ℕ → ℕ → ℕ → ℕ → ℕ
+faultOfGiven before isTaken kem keyLength keysThere pairCount pairsThere =
+    22 when leb mostConfigurations before otherwise
+    3 when not (knownKem kem) otherwise
+    19 when not (eqb keyLength (publicKeyLength kem) and leb keyLength keysThere) otherwise
+    20 when not (pairBytesHold (pairCount * 2) and leb pairCount pairsThere) otherwise
+    21 when isTaken otherwise
+    0
 
 -- the bytes of one configuration: L, key id, KEM, public key, S, pairs
 abbrev pub configurationBytes : ℕ → ℕ → ℕ → List ℕ → ℕ → List ℕ → List ℕ
@@ -71,21 +74,18 @@ configurationBytes keyId kem keyLength key pairCount pairs =
 -- the list with the configurations written behind its front, in which these key ids are taken; the next one starts where the front ends
 unfoldable pub encodeBehind : List ℕ → List ℕ → List Given → Result (List ℕ)
 encodeBehind front taken [] = good front
-encodeBehind front taken (leftOver ∷ more) = bad (badList (length front))
+encodeBehind front taken (leftOver ∷ more) = bad (refusedAt 19 (length front))
 encodeBehind front taken (configuration keyId kem keyLength key pairCount pairs ∷ more) =
-    pick
-    (ltb (length taken) mostConfigurations
-    and fieldsHold kem keyLength (length key) pairCount (length pairs)
-    and not (among taken keyId))
+    unlessFault (length front) (keyStart (length front) + publicKeyLength kem)
+    (faultOfGiven (length taken) (among taken keyId) kem keyLength (length key) pairCount (length pairs))
     (encodeBehind (front ++ configurationBytes keyId kem keyLength key pairCount pairs) (taken ++ keyId ∷ []) more)
-    (bad (badList (length front)))
 
 -- a list is one configuration or more
 unfoldable pub encode : List ℕ → Fields → Result (List ℕ)
-encode [] f = bad (badList 0)
+encode [] f = bad (refusedAt 18 0)
 encode (id ∷ ids) f = encodeBehind [] [] (cut (id ∷ ids) f)
 
--- the answer for a buffer of a length: 15 with the place, then 14, or the length written
+-- the answer for a buffer of a length: what is wrong with the fields, then 14, or the length written
 abbrev pub writtenIn : ℕ → Result (List ℕ) → Written
 writtenIn room (good bytes) = pick (leb (length bytes) room) (Written.Length (length bytes)) (Written.Refused (refused 14))
 writtenIn room (bad r) = Written.Refused r

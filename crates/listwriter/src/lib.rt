@@ -2,17 +2,16 @@
 // key bytes of all, how many pair numbers each has, and the pair numbers of all, KDF and AEAD by turns.
 ghost use mathlib.Core.Path.{_≡_};
 ghost use Prim.Native.Nat.{_+_, _*_, _≤_, _<_};
-ghost use mathlib.Core.Bool.{not};
-ghost use lib.ListN.{length, getD, take};
-ghost use Rattle.wire.specs.Tests.{_and_};
-ghost use Rattle.wire.specs.Search.{among};
+ghost use lib.ListN.{length, getD};
 ghost use Rattle.wire.specs.Helpers.{overwritten};
-ghost use Rattle.listwriter.specs.Writer.{fields, fieldsHold, noneLeft, configurationBytes, encode, writtenIn, writtenTo, wordsBytes};
-ghost use Rattle.listwriter.specs.Helpers.{fieldsFrom, firstHolds, lengthWritten, Fitting};
-use algorithms::Kem;
-use algorithms::Size;
+ghost use Rattle.algorithms.specs.Sizes.{publicKeyLength};
+ghost use Rattle.keylist.specs.Layout.{keyStart, refusedFor};
+ghost use Rattle.listwriter.specs.Writer.{fields, faultOfGiven, noneLeft, configurationBytes, encode, writtenIn, writtenTo, wordsBytes};
+ghost use Rattle.listwriter.specs.Helpers.{faultAt, fieldsFrom, lengthWritten, Fitting};
 use keylist::check::MOST_CONFIGURATIONS;
 use keylist::check::MOST_PAIR_BYTES;
+use keylist::check::field_at_fault;
+use keylist::check::key_length;
 use keylist::check::pair_bytes_hold;
 use wire::bytes::overwrite;
 use wire::refusal::Refusal;
@@ -38,27 +37,56 @@ fn kem_at(kems: &[u16], at: usize) -> u16
     if at < kems.len() { kems[at] } else { 0 }
 }
 
-// The layout's rules for one configuration, given what is left of the key bytes and the pair numbers.
-fn fields_hold(kem: u16, key: usize, keys_left: usize, pair_count: usize, pairs_left: usize) -> bool
-    ensures { λ r. ⌜ r ≡ fieldsHold kem key «keys_left» «pair_count» «pairs_left» ⌝ }
+// The first fault of a configuration that is given behind so many others, 0 where there is none, with what is left of the key bytes and
+// the pair numbers.
+fn fault(
+    before: usize,
+    is_taken: bool,
+    kem: u16,
+    key: usize,
+    keys_left: usize,
+    pair_count: usize,
+    pairs_left: usize,
+) -> u8
+    ensures { λ r. ⌜ r ≡ faultOfGiven before «is_taken» kem key «keys_left» «pair_count» «pairs_left» ⌝ }
 {
-    let Size::Bytes(right) = Kem(kem).public_key_length() else {
-        return false;
-    };
+    if MOST_CONFIGURATIONS <= before {
+        return Refusal::TOO_MANY_CONFIGURATIONS;
+    }
+    let right = key_length(kem);
+    if right == 0 {
+        return Refusal::UNKNOWN_KEM;
+    }
     if key != right {
-        return false;
+        return Refusal::LENGTH_MISMATCH;
     }
     if keys_left < key {
-        return false;
+        return Refusal::LENGTH_MISMATCH;
     }
     // This bound comes first, so that the product behind it cannot wrap.
     if MOST_PAIR_BYTES < pair_count {
-        return false;
+        return Refusal::BAD_PAIR_LENGTH;
     }
     if !pair_bytes_hold(pair_count * 2) {
-        return false;
+        return Refusal::BAD_PAIR_LENGTH;
     }
-    pair_count <= pairs_left
+    if pairs_left < pair_count {
+        return Refusal::BAD_PAIR_LENGTH;
+    }
+    if is_taken {
+        Refusal::DUPLICATE_KEY_ID
+    } else {
+        0
+    }
+}
+
+// The refusal of a configuration that would start at an offset, for a fault. It asks for an offset as the walk has them, so that no sum wraps.
+fn refused(at: usize, kem: u16, number: u8) -> Written
+    requires { ⌜ at ≤ 4096 ⌝ }
+    ensures { λ r. ⌜ r ≡ Written.Refused (refusedFor at (keyStart at + publicKeyLength kem) number) ⌝ }
+{
+    let end = at + 5 + key_length(kem);
+    Written::Refused(Refusal::at(number, field_at_fault(at, end, number)))
 }
 
 // Numbers, two bytes each, from an offset of a buffer that has room for them.
@@ -142,9 +170,9 @@ impl Cursor {
     }
 }
 
-// The configuration at the cursor keeps the layout's rules, and its key id is not taken. The walk keeps the cursor inside the
-// fields, which is why this may ask for it.
-fn is_writable(
+// The first fault of the configuration at the cursor, 0 where there is none. The walk keeps the cursor inside the fields, which is why this
+// may ask for it.
+fn fault_at(
     ids: &[u8],
     kems: &[u16],
     key_lengths: &[usize],
@@ -152,23 +180,23 @@ fn is_writable(
     pair_counts: &[usize],
     pairs: &[u16],
     cursor: Cursor,
-) -> bool
+) -> u8
     requires { ⌜ (cursor .index < length (now ids)) × (cursor .«key_at» ≤ length (now keys))
         × (cursor .«pair_at» ≤ length (now pairs)) ⌝ }
-    ensures { λ r. ⌜ r ≡ (firstHolds (fieldsFrom
+    ensures { λ r. ⌜ r ≡ faultAt (now (ids .entry))
         (fields (now (kems .entry)) (now («key_lengths» .entry)) (now (keys .entry)) (now («pair_counts» .entry)) (now (pairs .entry)))
-        (cursor .index) (cursor .«key_at») (cursor .«pair_at»))
-        and not (among (take (cursor .index) (now (ids .entry))) (getD (now (ids .entry)) (cursor .index) 0))) ⌝ }
+        (cursor .index) (cursor .«key_at») (cursor .«pair_at») ⌝ }
 {
     let index = cursor.index;
-    let key = number_at(key_lengths, index);
-    let keys_left = keys.len() - cursor.key_at;
-    let pair_count = number_at(pair_counts, index);
-    let pairs_left = pairs.len() - cursor.pair_at;
-    if !fields_hold(kem_at(kems, index), key, keys_left, pair_count, pairs_left) {
-        return false;
-    }
-    !has_byte(&ids[..index], ids[index])
+    fault(
+        index,
+        has_byte(&ids[..index], ids[index]),
+        kem_at(kems, index),
+        number_at(key_lengths, index),
+        keys.len() - cursor.key_at,
+        number_at(pair_counts, index),
+        pairs.len() - cursor.pair_at,
+    )
 }
 
 // No field is left over behind the cursor.
@@ -199,7 +227,7 @@ fn none_left(
     pairs.len() <= cursor.pair_at
 }
 
-// The length of the list that the fields make, or 15 with the offset where the first bad configuration would start.
+// The length of the list that the fields make, or the first fault with its place.
 fn list_length(
     ids: &[u8],
     kems: &[u16],
@@ -212,23 +240,21 @@ fn list_length(
         (fields (now (kems .entry)) (now («key_lengths» .entry)) (now (keys .entry)) (now («pair_counts» .entry)) (now (pairs .entry)))) ⌝ }
 {
     if ids.len() == 0 {
-        return Written::Refused(Refusal::bad_list(0));
+        return Written::Refused(Refusal::at(Refusal::LIST_TRUNCATED, 0));
     }
     let mut cursor = Cursor::start();
     while cursor.index < ids.len() {
         let index = cursor.index;
-        if index == MOST_CONFIGURATIONS {
-            return Written::Refused(Refusal::bad_list(cursor.at));
-        }
-        if !is_writable(ids, kems, key_lengths, keys, pair_counts, pairs, cursor) {
-            return Written::Refused(Refusal::bad_list(cursor.at));
+        let number = fault_at(ids, kems, key_lengths, keys, pair_counts, pairs, cursor);
+        if number != 0 {
+            return refused(cursor.at, kem_at(kems, index), number);
         }
         cursor = cursor.next(number_at(key_lengths, index), number_at(pair_counts, index));
     }
     if none_left(kems, key_lengths, keys, pair_counts, pairs, cursor) {
         Written::Length(cursor.at)
     } else {
-        Written::Refused(Refusal::bad_list(cursor.at))
+        Written::Refused(Refusal::at(Refusal::LENGTH_MISMATCH, cursor.at))
     }
 }
 

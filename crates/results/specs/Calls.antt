@@ -33,7 +33,7 @@ problemType false = 0
 
 -- 01, "Refusal numbers": only admit's refusals have a status, and a problem type
 abbrev pub refusedAdmit : AdmitRefusal → Outcome
-refusedAdmit r = record { number = r .number; place = 0; status = r .status; problem = problemType (r .«key_problem») }
+refusedAdmit r = record { number = r .number; «has_place» = false; place = 0; status = r .status; problem = problemType (r .«key_problem») }
 
 -- of an answer to a call on a ticket: the status that is sent, of a failed opening or of a sealed response; and a number, 1 where the exchange is
 -- opened now, the encapsulated length of a sealed response

@@ -1,5 +1,6 @@
--- What every answer to a host begins with: refusal number (0: accepted), place, HTTP status (0: nothing is sent), problem type.
+-- What every answer to a host begins with: refusal number (0: accepted), whether it has a place, its place, HTTP status (0: nothing is sent), problem type.
 use Prim.Native.Nat.{ℕ}
+use mathlib.Core.Bool.{false}
 use Rattle.wire.specs.declared.refusal.Refusal.{Refusal}
 use Rattle.results.specs.declared.outcome.Outcome.{Outcome}
 use Rattle.results.specs.declared.outcome.NumberResult.{NumberResult}
@@ -7,11 +8,11 @@ use Rattle.results.specs.declared.outcome.TwoNumbersResult.{TwoNumbersRe
 
 -- an accepted call, and the status that it sends
 abbrev pub sends : ℕ → Outcome
-sends status = record { number = 0; place = 0; status = status; problem = 0 }
+sends status = record { number = 0; «has_place» = false; place = 0; status = status; problem = 0 }
 
 -- a refusal that sends nothing
 abbrev pub refusedBy : Refusal → Outcome
-refusedBy r = record { number = r .number; place = r .place; status = 0; problem = 0 }
+refusedBy r = record { number = r .number; «has_place» = r .«has_place»; place = r .place; status = 0; problem = 0 }
 
 -- an outcome with a number, or with two; 0 on refusal
 abbrev pub sent : ℕ → ℕ → NumberResult

@@ -289,6 +289,7 @@ pub(crate) fn admit_result(answer: AdmitAnswer) -> AdmitResult
         AdmitAnswer::Refused(refusal) => AdmitResult {
             outcome: Outcome {
                 number: refusal.number,
+                has_place: false,
                 place: 0,
                 status: refusal.status,
                 problem: problem(refusal.key_problem),

@@ -3,11 +3,12 @@ ghost use mathlib.Core.Path.{_≡_};
 ghost use Rattle.results.specs.Outcome.{sends, refusedBy, sent, withNumber, refusedNumber, withTwoNumbers, refusedTwoNumbers};
 use wire::refusal::Refusal;
 
-// The refusal number, 0 where the call is accepted; the refusal's place; the HTTP status to send, 0 where nothing is sent; the
+// The refusal number, 0 where the call is accepted; whether the refusal has a place, and its place; the HTTP status to send, 0 where nothing is sent; the
 // problem type of an unprotected answer.
 #[repr(C)]
 pub struct Outcome {
     pub number: u8,
+    pub has_place: bool,
     pub place: usize,
     pub status: u16,
     pub problem: u8,
@@ -25,6 +26,7 @@ impl Outcome {
     {
         Outcome {
             number: 0,
+            has_place: false,
             place: 0,
             status,
             problem: Outcome::NO_PROBLEM,
@@ -37,6 +39,7 @@ impl Outcome {
     {
         Outcome {
             number: refusal.number,
+            has_place: refusal.has_place,
             place: refusal.place,
             status: 0,
             problem: Outcome::NO_PROBLEM,

@@ -4,7 +4,6 @@ use crate::output::OutputBuffer;
 use crate::parts::MOST_ROOM;
 use crate::parts::part_of;
 use results::outcome::Outcome;
-use wire::refusal::Refusal;
 
 pub(crate) fn put_byte(out: &mut OutputBuffer, at: usize, byte: u8) -> usize {
     if OUTPUT_SIZE <= at {
@@ -145,19 +144,15 @@ fn number_at(numbers: &[u64], place: usize) -> u64 {
     }
 }
 
-// A refusal: its number, its place where the number has one, the status where one is sent, the problem type where there is one.
+// A refusal: its number, its place where it has one, the status where one is sent, the problem type where there is one.
 fn put_refusal(out: &mut OutputBuffer, at: usize, outcome: Outcome) -> usize {
-    let refusal = Refusal {
-        number: outcome.number,
-        place: outcome.place,
-    };
     put_form(
         out,
         at,
         b"refused %? at %? status=%? ohttp-key",
         &[
             outcome.number as u64,
-            refusal.has_place() as u64,
+            outcome.has_place as u64,
             outcome.place as u64,
             outcome.status as u64,
             outcome.status as u64,

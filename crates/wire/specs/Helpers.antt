@@ -1,10 +1,7 @@
 -- What only the contracts of functions below the entries cite: a reader of the rules can skip this file.
 use Prim.Native.Nat.{ℕ, _+_, _-_, min}
-use mathlib.Core.Bool.{Bool}
 use mathlib.Core.List.{List, _++_}
-use lib.Dec.{eqb}
 use lib.ListN.{length, take, drop}
-use Rattle.wire.specs.declared.refusal.Refusal.{Refusal}
 
 -- how many of `bytes` there is room for from an offset of the buffer
 abbrev pub roomFor : List ℕ → ℕ → List ℕ → ℕ
@@ -14,7 +11,3 @@ roomFor buffer at bytes = min (length bytes) (length buffer - at)
 abbrev pub overwritten : List ℕ → ℕ → List ℕ → List ℕ
 overwritten buffer at bytes =
     take at buffer ++ take (roomFor buffer at bytes) bytes ++ drop (at + roomFor buffer at bytes) buffer
-
--- 01, "It returns the number, and for 15 also a place"
-abbrev pub hasPlace : Refusal → Bool
-hasPlace r = eqb (r .number) 15

@@ -1,4 +1,4 @@
--- A refusal (01, "Refusal numbers"): its number and its place, and the order in which refusals are tested (01, "Order").
+-- A refusal (01, "Refusal numbers"): its number, and its place where it has one, and the order in which refusals are tested (01, "Order").
 use Prim.Native.Nat.{ℕ, zero, suc}
 use mathlib.Core.Bool.{Bool, true, false}
 use mathlib.Core.List.{List}
@@ -11,13 +11,13 @@ abbrev pub _when_otherwise_ : ℕ → Bool → ℕ → ℕ
 _when_otherwise_ n true m = n
 _when_otherwise_ n false m = m
 
--- a number that has no place: the place is 0
+-- a refusal without a place: 0 stands for it
 abbrev pub refused : ℕ → Refusal
-refused n = record { number = n; place = 0 }
+refused n = record { number = n; «has_place» = false; place = 0 }
 
--- 01, number 15: key list bad, with its place
-abbrev pub badList : ℕ → Refusal
-badList at = record { number = 15; place = at }
+-- one with its place
+abbrev pub refusedAt : ℕ → ℕ → Refusal
+refusedAt n place = record { number = n; «has_place» = true; place = place }
 
 -- by a refusal number: with 0 the first, else the second
 abbrev pub unlessRefused : {A : Type 0} → ℕ → A → A → A

@@ -1,16 +1,16 @@
-// 01's refusals.
+// The refusals of 01 and of 02, A2.
 ghost use mathlib.Core.Path.{_≡_};
-ghost use Rattle.wire.specs.Refusals.{refused, badList};
-ghost use Rattle.wire.specs.Helpers.{hasPlace};
+ghost use Rattle.wire.specs.Refusals.{refused, refusedAt};
 
-// A refusal: its number and, for 15, its place; the place is 0 for every other number.
+// A refusal: its number, and whether it has a place, which is 0 where it has none.
 pub struct Refusal {
     pub number: u8,
+    pub has_place: bool,
     pub place: usize,
 }
 
 impl Refusal {
-    // 01's numbers. 10 is kept free.
+    // The numbers. 10 is kept free, and 15 is no longer given.
     pub const TOO_SHORT: u8 = 1;
 
     pub const TOO_LONG: u8 = 2;
@@ -37,32 +37,39 @@ impl Refusal {
 
     pub const NO_ROOM: u8 = 14;
 
-    pub const BAD_KEY_LIST: u8 = 15;
-
     pub const NO_USABLE_CONFIGURATION: u8 = 16;
 
     pub const CAP_OUT_OF_RANGE: u8 = 17;
 
-    // A number that has no place.
+    pub const LIST_TRUNCATED: u8 = 18;
+
+    pub const LENGTH_MISMATCH: u8 = 19;
+
+    pub const BAD_PAIR_LENGTH: u8 = 20;
+
+    pub const DUPLICATE_KEY_ID: u8 = 21;
+
+    pub const TOO_MANY_CONFIGURATIONS: u8 = 22;
+
+    // A refusal without a place.
     pub fn of(number: u8) -> Self
         ensures { λ r. ⌜ r ≡ refused number ⌝ }
     {
-        Refusal { number, place: 0 }
-    }
-
-    // 15, with its place.
-    pub fn bad_list(place: usize) -> Self
-        ensures { λ r. ⌜ r ≡ badList place ⌝ }
-    {
         Refusal {
-            number: Refusal::BAD_KEY_LIST,
-            place,
+            number,
+            has_place: false,
+            place: 0,
         }
     }
-    // The number comes with a place.
-    pub fn has_place(self) -> bool
-        ensures { λ r. ⌜ r ≡ hasPlace self ⌝ }
+
+    // One with its place.
+    pub fn at(number: u8, place: usize) -> Self
+        ensures { λ r. ⌜ r ≡ refusedAt number place ⌝ }
     {
-        self.number == Refusal::BAD_KEY_LIST
+        Refusal {
+            number,
+            has_place: true,
+            place,
+        }
     }
 }

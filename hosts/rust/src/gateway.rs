@@ -71,10 +71,10 @@ impl Gateway {
     /// Makes a fresh gateway of a key list and a cap, the uses allowed per key, 1 to 1,000,000,000.
     /// A skipped configuration ([`crate::KeyList::check`] says how many there are) makes no key;
     /// where all are skipped the gateway has none and refuses every request.
-    /// Refusals: 15, 17.
+    /// Refusals: 18 to 22, 17.
     pub fn setup(list: &[u8], cap: u64) -> Result<Gateway, Refusal> {
         let (memory, result) = raw::setup(list, cap);
-        Refusal::or(result.outcome, Gateway { memory })
+        Refusal::or_in_list(result.outcome, list, Gateway { memory })
     }
 
     /// A gateway without keys, which refuses every request: for a host that serves before it has a
@@ -210,7 +210,7 @@ mod tests {
 
     #[test]
     fn setup_refuses() {
-        assert_eq!(number(Gateway::setup(&[], 1)), 15);
+        assert_eq!(number(Gateway::setup(&[], 1)), 18);
         assert_eq!(number(Gateway::setup(&edge_list(), 0)), 17);
         assert_eq!(number(Gateway::setup(&edge_list(), 1_000_000_001)), 17);
         assert_eq!(number(Gateway::setup(&edge_list(), 1_000_000_000)), 0);

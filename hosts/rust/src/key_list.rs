@@ -28,9 +28,9 @@ pub struct Configuration<'c> {
 
 /// A key list (RFC 9458, 3), the media type `application/ohttp-keys`, over the bytes that hold it.
 ///
-/// Every call reads the whole list first, and a list with one bad configuration is refused whole:
-/// 15, with the place of the first bad one. A configuration of at least 3 bytes that lies whole in
-/// the list and has an unknown KEM is skipped: its inside is not read and its key id not taken, but
+/// Every call reads the whole list first, and a list with one bad configuration is refused whole: 18
+/// to 22, with the [`Field`](crate::Field) at fault. A configuration of at least 3 bytes that lies
+/// whole in the list and has an unknown KEM is skipped: its inside is not read and its key id not taken, but
 /// it counts towards the sixteen. [`KeyList::check`] says how many there are.
 ///
 /// ```
@@ -57,7 +57,7 @@ pub struct Configuration<'c> {
 /// let damaged = KeyList::new(&bytes[..46]);
 /// assert_eq!(
 ///     damaged.check().unwrap_err().to_string(),
-///     "the key list is bad at offset 0 (refusal 15)"
+///     "length at byte 0 is 45, and the list ends before so many bytes (refusal 18)"
 /// );
 /// # Ok::<(), sealwax::Refusal>(())
 /// ```
@@ -94,28 +94,29 @@ impl<'l> KeyList<'l> {
         KeyList { bytes }
     }
 
-    /// How many configurations of a good list were read, and how many skipped. Refusal: 15.
+    /// How many configurations of a good list were read, and how many skipped. Refusals: 18
+    /// to 22.
     pub fn check(self) -> Result<Checked, Refusal> {
         let result = raw::check(self.bytes);
         let checked = Checked {
             configurations: result.configurations,
             skipped: result.skipped,
         };
-        Refusal::or(result.outcome, checked)
+        Refusal::or_in_list(result.outcome, self.bytes, checked)
     }
 
-    /// The public key of a key id, a part of the list. Refusals: 15, 4.
+    /// The public key of a key id, a part of the list. Refusals: 18 to 22, 4.
     pub fn key(self, key_id: u8) -> Result<&'l [u8], Refusal> {
         let result = raw::key(self.bytes, key_id);
-        Refusal::or(result.outcome, ())?;
+        Refusal::or_in_list(result.outcome, self.bytes, ())?;
         Ok(&self.bytes[result.start..result.end])
     }
 
     /// The first configuration, and of its pairs the first, that a client can use who knows these
-    /// KEMs and these pairs. Refusals: 15, 16.
+    /// KEMs and these pairs. Refusals: 18 to 22, 16.
     pub fn choose(self, kems: &[u16], pairs: &[Pair]) -> Result<Choice<'l>, Refusal> {
         let result = raw::choose(self.bytes, kems, &by_turns(pairs));
-        Refusal::or(result.outcome, ())?;
+        Refusal::or_in_list(result.outcome, self.bytes, ())?;
         Ok(Choice {
             key_id: result.key_id,
             kem: result.kem,
@@ -127,8 +128,8 @@ impl<'l> KeyList<'l> {
         })
     }
 
-    /// Writes a list of these configurations. Refusal: 15, with the offset where the bad
-    /// configuration would start.
+    /// Writes a list of these configurations. Refusals: 18 where there is none; of each in turn 22,
+    /// 3, 19, 20, 21. The field at fault is where it would stand in the list.
     pub fn write(configurations: &[Configuration]) -> Result<Vec<u8>, Refusal> {
         let mut list = vec![0; raw::LONGEST_LIST];
         let length = KeyList::write_into(configurations, &mut list)?;
@@ -136,8 +137,8 @@ impl<'l> KeyList<'l> {
         Ok(list)
     }
 
-    /// Writes a list at the front of a buffer and answers its length; the rest stays. Refusals: 15,
-    /// 14.
+    /// Writes a list at the front of a buffer and answers its length; the rest stays. Refusals: those
+    /// of [`KeyList::write`], 14.
     pub fn write_into(
         configurations: &[Configuration],
         buffer: &mut [u8],
@@ -216,7 +217,55 @@ pub(crate) mod tests {
         assert_eq!(list.key(8).unwrap_err().number(), 4);
         let twice = [&bytes[..], &bytes].concat();
         let refusal = KeyList::new(&twice).check().unwrap_err();
-        assert!(matches!(refusal, Refusal::BadKeyList { place: 43, .. }));
+        assert_eq!(number_and_field(refusal), (21, Some((45, Some(7)))));
+    }
+
+    /// Every reader of lists names the field at fault, and what stands there.
+    #[test]
+    fn damaged_lists() {
+        let damaged = |length: u16, pair_length: u16| {
+            let mut list = edge_list();
+            list[..2].copy_from_slice(&length.to_be_bytes());
+            list[37..39].copy_from_slice(&pair_length.to_be_bytes());
+            list
+        };
+        let seventeen: Vec<u8> = (0..17)
+            .flat_map(|id| {
+                let mut list = edge_list();
+                list[2] = id;
+                list
+            })
+            .collect();
+        let lists: [(Vec<u8>, u8, usize, Option<u16>); 8] = [
+            (vec![], 18, 0, None),
+            (vec![0], 18, 0, None),
+            (damaged(42, 4), 18, 0, Some(42)),
+            (damaged(40, 4), 19, 0, Some(40)),
+            (damaged(41, 6), 20, 37, Some(6)),
+            (damaged(41, 0), 20, 37, Some(0)),
+            (edge_list().repeat(2), 21, 45, Some(7)),
+            (seventeen, 22, 688, Some(41)),
+        ];
+        for (bytes, number, place, value) in lists {
+            let list = KeyList::new(&bytes);
+            let expected = (number, Some((place, value)));
+            for refusal in [
+                list.check().unwrap_err(),
+                list.key(7).unwrap_err(),
+                list.choose(&[0x0020], &PAIRS).unwrap_err(),
+                crate::Gateway::setup(&bytes, 1).map(|_| ()).unwrap_err(),
+            ] {
+                assert_eq!(number_and_field(refusal), expected);
+            }
+        }
+    }
+
+    fn number_and_field(refusal: Refusal) -> (u8, Option<(usize, Option<u16>)>) {
+        let field = refusal.field();
+        (
+            refusal.number(),
+            field.map(|field| (field.place(), field.value())),
+        )
     }
 
     #[test]
@@ -244,15 +293,54 @@ pub(crate) mod tests {
         }
         assert_eq!(KeyList::new(&longest).check(), checked(0, 16));
         longest.extend(unknown);
-        assert_eq!(KeyList::new(&longest).check().unwrap_err().number(), 15);
+        assert_eq!(KeyList::new(&longest).check().unwrap_err().number(), 22);
     }
 
     #[test]
     fn the_writer() {
         assert_eq!(KeyList::write(&[EDGE]), Ok(edge_list()));
-        let refusal = KeyList::write(&[EDGE, EDGE]).unwrap_err();
-        assert!(matches!(refusal, Refusal::BadKeyList { place: 43, .. }));
-        assert_eq!(KeyList::write(&[]).unwrap_err().number(), 15);
+        let other = Configuration { key_id: 8, ..EDGE };
+        let refused: [(&[Configuration], u8, usize); 5] = [
+            (&[], 18, 0),
+            (
+                &[
+                    EDGE,
+                    Configuration {
+                        kem: 0x0030,
+                        ..other
+                    },
+                ],
+                3,
+                46,
+            ),
+            (
+                &[
+                    EDGE,
+                    Configuration {
+                        public_key: &[0x11; 31],
+                        ..other
+                    },
+                ],
+                19,
+                43,
+            ),
+            (
+                &[
+                    EDGE,
+                    Configuration {
+                        pairs: &[],
+                        ..other
+                    },
+                ],
+                20,
+                80,
+            ),
+            (&[EDGE, EDGE], 21, 45),
+        ];
+        for (configurations, number, place) in refused {
+            let refusal = KeyList::write(configurations).unwrap_err();
+            assert_eq!(number_and_field(refusal), (number, Some((place, None))));
+        }
         let mut small = [0xa5; 42];
         let refusal = KeyList::write_into(&[EDGE], &mut small).unwrap_err();
         assert_eq!((refusal.number(), small), (14, [0xa5; 42]));
@@ -282,7 +370,7 @@ pub(crate) mod tests {
             ..longest
         });
         let refusal = KeyList::write(&all).unwrap_err();
-        assert!(matches!(refusal, Refusal::BadKeyList { place: 3264, .. }));
+        assert_eq!(number_and_field(refusal), (22, Some((3264, None))));
     }
 
     #[test]

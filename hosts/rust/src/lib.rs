@@ -127,4 +127,4 @@ pub use raw::{
     EXPORTER_CONTEXT_LENGTH, INFO_LENGTH, LONGEST_HEAD, LONGEST_LIST, LONGEST_LIST_READ,
     LONGEST_SALT,
 };
-pub use refusal::{Refusal, Unprotected, OHTTP_KEY};
+pub use refusal::{Field, Refusal, Unprotected, OHTTP_KEY};

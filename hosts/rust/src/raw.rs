@@ -45,6 +45,7 @@ pub struct Gateway {
 #[derive(Clone, Copy, Debug, PartialEq, Eq)]
 pub struct Outcome {
     pub number: u8,
+    pub has_place: bool,
     pub place: usize,
     pub status: u16,
     pub problem: u8,

@@ -59,6 +59,7 @@ fn same_memory(given: &Lent, expected: &Lent) {
 fn accepted(status: u16) -> Outcome {
     Outcome {
         number: 0,
+        has_place: false,
         place: 0,
         status,
         problem: 0,
@@ -69,6 +70,7 @@ fn accepted(status: u16) -> Outcome {
 fn refused(refusal: Refusal) -> Outcome {
     Outcome {
         number: refusal.number,
+        has_place: refusal.place.is_some(),
         place: refusal.place.unwrap_or(0),
         ..accepted(0)
     }
@@ -581,22 +583,32 @@ fn written_fields_that_do_not_belong_together() {
     let mut buffer = [0; 50];
     assert_eq!(raw::write(&good, &mut buffer).length, 43);
     type Change = fn(&mut raw::Fields);
-    let changes: [(Change, usize); 8] = [
-        (|fields| fields.kems.clear(), 0),
-        (|fields| fields.key_lengths.clear(), 0),
-        (|fields| fields.pair_counts.clear(), 0),
-        (|fields| fields.keys.truncate(31), 0),
-        (|fields| fields.pairs.truncate(1), 0),
-        (|fields| fields.keys.push(0), 43),
-        (|fields| fields.pairs.push(0), 43),
-        (|fields| fields.key_lengths[0] = usize::MAX, 0),
+    let changes: [(Change, u8, usize); 12] = [
+        (|fields| fields.kems.clear(), 3, 3),
+        (|fields| fields.key_lengths.clear(), 19, 0),
+        (|fields| fields.pair_counts.clear(), 20, 37),
+        (|fields| fields.keys.truncate(31), 19, 0),
+        (|fields| fields.pairs.truncate(1), 20, 37),
+        (|fields| fields.pair_counts[0] = usize::MAX, 20, 37),
+        (|fields| fields.kems.push(0x0020), 19, 43),
+        (|fields| fields.key_lengths.push(0), 19, 43),
+        (|fields| fields.keys.push(0), 19, 43),
+        (|fields| fields.pair_counts.push(0), 19, 43),
+        (|fields| fields.pairs.push(0), 19, 43),
+        (|fields| fields.key_lengths[0] = usize::MAX, 19, 0),
     ];
-    for (change, place) in changes {
+    for (change, number, place) in changes {
         let mut fields = good.clone();
         change(&mut fields);
         let mut buffer = [0xa5; 50];
         let given = raw::write(&fields, &mut buffer);
-        assert_eq!((given.outcome.number, given.outcome.place), (15, place));
+        let outcome = Outcome {
+            number,
+            has_place: true,
+            place,
+            ..accepted(0)
+        };
+        assert_eq!(given.outcome, outcome);
         assert_eq!(buffer, [0xa5; 50]);
     }
 }

@@ -13,7 +13,8 @@ use reference::keeper::{Keeper, Opening};
 use reference::list_writer::Fields;
 use reference::refusal::{is_key_problem, status};
 use sealwax::{
-    Asked, Checked, Configuration, Gateway, KeyList, Opened, Pair, Refusal, Ticket, OHTTP_KEY,
+    Asked, Checked, Configuration, Field, Gateway, KeyList, Opened, Pair, Refusal, Ticket,
+    OHTTP_KEY,
 };
 use std::collections::BTreeMap;
 
@@ -22,13 +23,9 @@ const NO_ROOM: u8 = 14;
 
 type Expected<T> = Result<T, reference::refusal::Refusal>;
 
-/// The number and the place of a refusal; 15 alone has a place.
+/// The number and the place of a refusal.
 fn number_and_place(refusal: Refusal) -> (u8, Option<usize>) {
-    let place = match refusal {
-        Refusal::BadKeyList { place, .. } => Some(place),
-        _ => None,
-    };
-    (refusal.number(), place)
+    (refusal.number(), refusal.field().map(Field::place))
 }
 
 /// Compares an answer that sends nothing where it is refused.

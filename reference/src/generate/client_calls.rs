@@ -7,7 +7,7 @@ use super::key_lists::{
 use crate::algorithms::{nenc, response_nonce_length, HEAD_LENGTH};
 use crate::answer::hex;
 use crate::client::EXPORTER_CONTEXT;
-use crate::key_list::{read_list, Configuration};
+use crate::key_list::{read_list, Configuration, MOST_CONFIGURATIONS};
 use crate::list_writer::{encode, Fields};
 use crate::random::Random;
 use crate::skipped::skipped;
@@ -56,9 +56,9 @@ fn some_list(random: &mut Random, last: &[u8]) -> Vec<u8> {
         return long(random);
     }
     let use_last = last.len() <= SHORT_LIST || random.one_in(20);
-    match random.below(10) {
+    match random.below(11) {
         0..=3 if use_last => last.to_vec(),
-        4..=6 => nearly_right(random),
+        4..=7 => nearly_right(random),
         _ => small(random),
     }
 }
@@ -169,8 +169,15 @@ pub fn split(random: &mut Random) -> String {
 
 pub fn write(random: &mut Random, last: &[u8]) -> String {
     let mut given = given_configurations(random, last);
-    if random.one_in(3) {
-        spoil(random, &mut given);
+    match random.below(20) {
+        0 => given.clear(),
+        _ if given.len() > MOST_CONFIGURATIONS => spoil(random, &mut given),
+        1..=7 => spoil(random, &mut given),
+        8 => {
+            let twin = given[random.below(given.len())].clone();
+            given.push(twin);
+        }
+        _ => {}
     }
     let length: usize = given.iter().map(|fields| encode(fields).len()).sum();
     let room = match random.below(8) {
@@ -200,7 +207,7 @@ fn given_configurations(random: &mut Random, last: &[u8]) -> Vec<Fields> {
         return read.into_iter().map(|c| read_fields(last, c)).collect();
     }
     let count = match random.below(40) {
-        0 => random.pick(&[16, 17, 17]),
+        0..=4 => random.pick(&[16, 17, 17, 17]),
         _ => small_count(random),
     };
     configurations(random, count)
@@ -216,27 +223,33 @@ fn read_fields(list: &[u8], read: Configuration) -> Fields {
     }
 }
 
-/// Breaks a rule of the layout in one place.
-fn spoil(random: &mut Random, given: &mut Vec<Fields>) {
-    let place = random.below(given.len());
-    let fields = &mut given[place];
-    match random.below(10) {
-        0 => given.clear(),
-        1 | 2 => {
+/// Breaks one rule of the layout or two in one configuration, which is often the last.
+fn spoil(random: &mut Random, given: &mut [Fields]) {
+    let place = if random.one_in(2) {
+        given.len() - 1
+    } else {
+        random.below(given.len())
+    };
+    let first_id = given[0].id;
+    for _ in 0..random.pick(&[1, 2, 2]) {
+        spoil_fields(random, &mut given[place], first_id);
+    }
+}
+
+fn spoil_fields(random: &mut Random, fields: &mut Fields, first_id: u8) {
+    match random.below(12) {
+        0 | 1 => {
             let length = fields.public_key.len();
             fields.public_key.resize(random.one_off(length), 0);
         }
-        3 => fields.public_key.resize(random.pick(&[0, 1, 32, 255]), 0),
-        4 => fields.kem = unknown_kem(random),
+        2 => fields.public_key.resize(random.pick(&[0, 1, 32, 255]), 0),
+        3 | 4 => fields.kem = unknown_kem(random),
         5 => fields.kem = random.pick(&KEMS),
         6 => fields.pairs.clear(),
         7 => fields.pairs.resize(random.pick(&[32, 33, 34, 40]), 2),
         8 => {
             fields.pairs.pop();
         }
-        _ => {
-            let twin = fields.clone();
-            given.push(twin);
-        }
+        _ => fields.id = first_id,
     }
 }

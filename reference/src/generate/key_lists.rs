@@ -220,24 +220,22 @@ pub fn long(random: &mut Random) -> Vec<u8> {
 
 /// A list with one fault or two; now and then the faults leave it good.
 pub fn nearly_right(random: &mut Random) -> Vec<u8> {
-    match random.below(16) {
+    match random.below(30) {
         0 => Vec::new(),
-        1 | 2 => too_many(random),
-        3 | 4 => {
+        1..=5 => too_many(random),
+        6 => {
             let list = small(random);
             truncated(random, list)
         }
-        5 => {
+        7 | 8 => {
             let mut list = small(random);
-            let extra = random.between(1, 4);
+            let extra = random.pick(&[1, 1, 1, 2, 3, 4]);
             list.extend(random.bytes(extra));
             list
         }
-        6 | 7 => cut(random),
-        _ => {
-            let count = small_count(random);
-            one_spoilt(random, count)
-        }
+        9 | 10 => cut(random),
+        11..=14 => id_twice(random),
+        _ => one_spoilt(random),
     }
 }
 
@@ -270,8 +268,8 @@ fn too_many(random: &mut Random) -> Vec<u8> {
     let mut all: Vec<Vec<u8>> = configurations.iter().map(encode).collect();
     let skipped_places = match random.below(8) {
         0 | 1 => 16..17,
-        2 => 0..16,
-        3 | 4 => 0..17,
+        2 | 3 => 0..16,
+        4 => 0..17,
         5 => {
             let first = random.below(17);
             first..random.between(first, 17)
@@ -282,9 +280,13 @@ fn too_many(random: &mut Random) -> Vec<u8> {
         all[place] = skipped(random, &ids);
     }
     match random.below(12) {
-        0 => all[16][2] = ids[3],
-        1 => all[16].truncate(1),
-        2 => all[16] = short(random),
+        0..=6 => all[16][2] = random.pick(&ids[..16]),
+        7 => all[16].truncate(1),
+        8 => {
+            all[16].pop();
+        }
+        9 => all[16] = short(random),
+        10 => all[16] = spoilt(random, configurations[16].clone()),
         _ => {}
     }
     all.concat()
@@ -308,24 +310,33 @@ fn truncated(random: &mut Random, mut list: Vec<u8>) -> Vec<u8> {
     list
 }
 
-/// One configuration of the list breaks a rule, and maybe a later one another.
-fn one_spoilt(random: &mut Random, count: usize) -> Vec<u8> {
+/// A key id twice, which may be the whole configuration twice; the twins stand anywhere.
+fn id_twice(random: &mut Random) -> Vec<u8> {
+    let count = small_count(random).min(MOST_CONFIGURATIONS - 1);
     let mut all = configurations(random, count);
     let ids = ids(&all);
-    let place = random.below(count);
-    if random.one_in(6) {
-        // An id twice, which may be the whole configuration twice.
-        let mut twin = all[place].clone();
-        if random.one_in(2) {
-            twin = configuration(random, twin.id);
-        }
-        all.push(twin);
-        let all = all.iter().map(encode).collect();
-        return maybe_with_skipped(random, all, &ids);
+    let mut twin = all[random.below(count)].clone();
+    if random.one_in(2) {
+        twin = configuration(random, twin.id);
     }
+    all.insert(random.below(count + 1), twin);
+    let all = all.iter().map(encode).collect();
+    maybe_with_skipped(random, all, &ids)
+}
+
+/// One configuration of the list breaks a rule, and maybe a later one another. It may have the key
+/// id of the first, too.
+fn one_spoilt(random: &mut Random) -> Vec<u8> {
+    let count = random.pick(&[1, 1, 2, 2, 3, 4, 7]);
+    let all = configurations(random, count);
+    let ids = ids(&all);
+    let place = random.below(count);
     let mut list = Vec::new();
-    for (at, fields) in all.into_iter().enumerate() {
+    for (at, mut fields) in all.into_iter().enumerate() {
         list.push(if at == place || (at > place && random.one_in(4)) {
+            if random.one_in(2) {
+                fields.id = ids[0];
+            }
             spoilt(random, fields)
         } else {
             encode(&fields)
@@ -345,18 +356,59 @@ fn maybe_with_skipped(random: &mut Random, all: Vec<Vec<u8>>, ids: &[u8]) -> Vec
 /// A configuration that breaks a rule of the layout.
 fn spoilt(random: &mut Random, mut fields: Fields) -> Vec<u8> {
     let npk = fields.public_key.len();
-    match random.below(11) {
+    match random.below(18) {
         0 => return length_off(random, encode(&fields), 0),
         1 => return length_off(random, encode(&fields), 5 + npk),
         2 => return uneven(random, fields),
-        3 => fields.pairs.clear(),
-        4 => fields.pairs.resize(random.pick(&[34, 36, 64]), 1),
-        5 => fields.pairs.push(1),
-        6..=8 => return short(random),
-        9 => fields.kem = random.pick(&KEMS),
+        3 | 4 => fields.pairs.clear(),
+        5 | 6 => fields.pairs.resize(random.pick(&[34, 36, 64, 130]), 1),
+        7 => fields.pairs.push(1),
+        8 | 9 => return bad_pairs_length(random, encode(&fields), 5 + npk),
+        10 | 11 => return short(random),
+        12 | 13 => return ends_early(random, encode(&fields), npk),
+        14 | 15 => return disagrees(random, encode(&fields), npk),
+        16 => fields.kem = random.pick(&KEMS),
         _ => fields.public_key.resize(random.one_off(npk), 0),
     }
     encode(&fields)
+}
+
+/// The configuration with so many bytes behind its length, which says so.
+fn of_length(random: &mut Random, mut bytes: Vec<u8>, length: usize) -> Vec<u8> {
+    let more = random.bytes(length);
+    bytes.extend(more);
+    bytes.truncate(2 + length);
+    bytes[..2].copy_from_slice(&(length as u16).to_be_bytes());
+    bytes
+}
+
+/// It ends before its pair length does: behind its KEM, about its key's end, or anywhere.
+fn ends_early(random: &mut Random, bytes: Vec<u8>, npk: usize) -> Vec<u8> {
+    let anywhere = random.between(3, 4 + npk);
+    let length = random.pick(&[3, 2 + npk, 3 + npk, 4 + npk, anywhere]);
+    of_length(random, bytes, length)
+}
+
+/// Its pair length is good, and there are fewer bytes than that, or more.
+fn disagrees(random: &mut Random, bytes: Vec<u8>, npk: usize) -> Vec<u8> {
+    let right = bytes.len() - 2;
+    let length = random.pick(&[
+        5 + npk,
+        right - 4,
+        right - 1,
+        right + 1,
+        right + 1,
+        right + 4,
+    ]);
+    of_length(random, bytes, length)
+}
+
+/// A bad pair length at a place, and nothing else changed.
+fn bad_pairs_length(random: &mut Random, mut bytes: Vec<u8>, place: usize) -> Vec<u8> {
+    let lengths = [0, 1, 2, 3, 5, 6, 63, 65, 66, 68, 256, 260, 1_024, u16::MAX];
+    let length = random.pick(&lengths);
+    bytes[place..place + 2].copy_from_slice(&length.to_be_bytes());
+    bytes
 }
 
 /// The length at a place off by 1, 4 or 256.

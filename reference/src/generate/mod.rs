@@ -37,12 +37,12 @@ enum Aim {
 }
 
 fn aim(random: &mut Random) -> Aim {
-    match random.below(30) {
-        0..=13 => Aim::Refused,
-        14..=17 => Aim::Skipped,
-        18..=22 => Aim::Worn,
-        23 | 24 => Aim::Full,
-        25 => Aim::Apart(random.pick(&[1, 4, 20, 43, 64, 64, 90])),
+    match random.below(38) {
+        0..=21 => Aim::Refused,
+        22..=25 => Aim::Skipped,
+        26..=30 => Aim::Worn,
+        31 | 32 => Aim::Full,
+        33 => Aim::Apart(random.pick(&[1, 4, 20, 43, 64, 64, 90])),
         _ => Aim::Mixed,
     }
 }
@@ -83,7 +83,7 @@ impl<W: Write> Generator<'_, W> {
     fn list(&mut self) -> io::Result<()> {
         let aim = aim(&mut self.random);
         let calls = match aim {
-            Aim::Refused => self.random.between(1, 30),
+            Aim::Refused => self.random.between(1, 20),
             Aim::Skipped => self.random.between(10, 60),
             Aim::Worn => self.random.between(20, 150),
             Aim::Mixed => self.random.between(100, 800),
@@ -198,14 +198,14 @@ fn engine(random: &mut Random) -> String {
 
 fn setup(random: &mut Random, aim: Aim) -> String {
     let refused = aim == Aim::Refused;
-    let bad_cap = refused && random.one_in(2);
+    let bad_cap = refused && random.one_in(3);
     let cap = if bad_cap {
         random.pick(&[0, 0, LARGEST_CAP + 1, 1 + (1 << 32), u64::MAX])
     } else {
         random.pick(caps(aim))
     };
     // A bad cap and a bad list together are refused for the list.
-    let list = if refused && random.one_in(25) {
+    let list = if refused && random.one_in(35) {
         key_lists::long(random)
     } else if refused && (!bad_cap || random.one_in(8)) {
         key_lists::nearly_right(random)
@@ -237,8 +237,8 @@ mod tests {
     use crate::algorithms::nenc;
     use crate::key_list::{inside_at, kem_of, number_at, read_list, LENGTH_SIZE};
     use crate::replay::Replay;
-    use crate::table::first_bad;
-    use std::collections::HashMap;
+    use crate::table::{first_bad, name};
+    use std::collections::{HashMap, HashSet};
 
     fn lists(seed: u64, calls: u64) -> Vec<u8> {
         let mut output = Vec::new();
@@ -432,6 +432,37 @@ mod tests {
             let seldom = SELDOM.map(times);
             assert!(seldom.iter().all(|times| *times > 3), "{call} {seldom:?}");
         }
+    }
+
+    /// Each number of a bad list comes at many places, in each call that gives it.
+    #[test]
+    fn places_are_varied() {
+        let mut places: HashMap<(&str, u8), HashSet<usize>> = HashMap::new();
+        let mut replay = Replay::new();
+        for line in lists(1, 100_000).split(|byte| *byte == b'\n') {
+            let line = read_line(line);
+            let answer = replay.answer(&line).unwrap_or_default();
+            let words: Vec<&str> = answer.split(' ').collect();
+            if let (Line::Call(call), ["refused", number, "at", place, ..]) = (&line, &words[..]) {
+                let found = places.entry((name(call), number.parse().unwrap()));
+                found.or_default().insert(place.parse().unwrap());
+            }
+        }
+        for call in ["setup", "check", "key", "choose", "write"] {
+            let different = [18, 19, 20, 21, 22].map(|number| places[&(call, number)].len());
+            let least = match call {
+                // None given has one place.
+                "write" => [1, 50, 50, 50, 50],
+                "setup" => [15, 15, 15, 15, 15],
+                _ => [50, 50, 50, 50, 50],
+            };
+            let enough = different.iter().zip(least).all(|(is, least)| *is >= least);
+            assert!(enough, "{call} {different:?}");
+        }
+        // The other number with a place is the list writer's alone.
+        let others = places.keys().filter(|(_, number)| *number < 18);
+        assert_eq!(others.collect::<Vec<_>>(), [&("write", 3)]);
+        assert!(places[&("write", 3)].len() > 50);
     }
 
     #[test]

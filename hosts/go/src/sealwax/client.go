@@ -18,7 +18,7 @@ func Choose(list []byte, kems []KEM, pairs []Pair) (Choice, error) {
 	numbers := byTurns(pairs)
 	result := C.sealwax_choose((*C.uint8_t)(first(list)), C.size_t(len(list)), (*C.uint16_t)(first(kems)), C.size_t(len(kems)),
 		first(numbers), C.size_t(len(numbers)))
-	if err := refused(result.outcome); err != nil {
+	if err := refusedOfList(result.outcome, list); err != nil {
 		return Choice{}, err
 	}
 	return Choice{

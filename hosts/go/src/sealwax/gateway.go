@@ -18,7 +18,7 @@ type Gateway struct {
 func Setup(list []byte, keyCap uint64) (*Gateway, error) {
 	gateway := new(Gateway)
 	result := C.sealwax_setup(&gateway.state, (*C.uint8_t)(first(list)), C.size_t(len(list)), C.uint64_t(keyCap))
-	if err := refused(result.outcome); err != nil {
+	if err := refusedOfList(result.outcome, list); err != nil {
 		return nil, err
 	}
 	return gateway, nil

@@ -7,16 +7,16 @@ import "C"
 
 // Check says how many configurations of a key list were read and how many were skipped, or why the list is bad. Skipped is one of at least 3
 // bytes that lies whole in the list and has an unknown KEM: its inside is not read and its key id not taken, but it counts towards the sixteen.
-// A bad list is discarded whole (RFC 9458, 3.2).
+// A bad list is discarded whole (RFC 9458, 3.2); the refusal says what is wrong with it and where.
 func Check(list []byte) (configurations, skipped int, err error) {
 	result := C.sealwax_check((*C.uint8_t)(first(list)), C.size_t(len(list)))
-	return int(result.configurations), int(result.skipped), refused(result.outcome)
+	return int(result.configurations), int(result.skipped), refusedOfList(result.outcome, list)
 }
 
 // PublicKey hands back a key's public key as a part of its list. A configuration that is skipped has none.
 func PublicKey(list []byte, id KeyID) ([]byte, error) {
 	result := C.sealwax_key((*C.uint8_t)(first(list)), C.size_t(len(list)), C.uint8_t(id))
-	if err := refused(result.outcome); err != nil {
+	if err := refusedOfList(result.outcome, list); err != nil {
 		return nil, err
 	}
 	return list[result.start:result.end], nil
@@ -30,7 +30,7 @@ type Configuration struct {
 	Pairs     []Pair
 }
 
-// WriteList writes a key list.
+// WriteList writes a key list. Its refusals' places are those of the fields in the list that would be written.
 func WriteList(configurations []Configuration) ([]byte, error) {
 	var (
 		ids        []KeyID

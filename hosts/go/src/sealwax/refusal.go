@@ -6,6 +6,7 @@ package sealwax
 import "C"
 
 import (
+	"encoding/binary"
 	"errors"
 	"fmt"
 )
@@ -25,9 +26,13 @@ const (
 	StepNotAllowed        = C.SEALWAX_STEP_NOT_ALLOWED
 	WrongLength           = C.SEALWAX_WRONG_LENGTH
 	NoRoom                = C.SEALWAX_NO_ROOM
-	BadKeyList            = C.SEALWAX_BAD_KEY_LIST
 	NoUsableConfiguration = C.SEALWAX_NO_USABLE_CONFIGURATION
 	CapOutOfRange         = C.SEALWAX_CAP_OUT_OF_RANGE
+	ListTruncated         = C.SEALWAX_LIST_TRUNCATED
+	LengthMismatch        = C.SEALWAX_LENGTH_MISMATCH
+	BadPairLength         = C.SEALWAX_BAD_PAIR_LENGTH
+	DuplicateKeyID        = C.SEALWAX_DUPLICATE_KEY_ID
+	TooManyConfigurations = C.SEALWAX_TOO_MANY_CONFIGURATIONS
 )
 
 // OHTTPKey is the problem type of a request with a wrong or outdated key configuration (RFC 9458, 5.3).
@@ -47,9 +52,13 @@ var sentences = map[int]string{
 	StepNotAllowed:        "step not allowed in this state",
 	WrongLength:           "opened, enc, nonce, plain or pair-list length wrong",
 	NoRoom:                "lent buffer too small",
-	BadKeyList:            "key list bad",
 	NoUsableConfiguration: "no usable configuration",
 	CapOutOfRange:         "cap outside 1 to 1,000,000,000",
+	ListTruncated:         "key list ends before a configuration does, or has none",
+	LengthMismatch:        "length and contents of a configuration disagree",
+	BadPairLength:         "pair length not a multiple of 4, or 0, or above 64",
+	DuplicateKeyID:        "key id twice",
+	TooManyConfigurations: "more than sixteen configurations",
 }
 
 // Sentence says what a refusal number means; each number has its own sentence.
@@ -57,17 +66,23 @@ func Sentence(number int) string { return sentences[number] }
 
 // A Refusal is the library's numbered answer to a call that it did not accept; such a call has changed nothing.
 type Refusal struct {
-	Number  int
-	Place   int    // where the list is bad, for BadKeyList
-	Status  int    // the HTTP status to send unprotected, 0 where nothing is sent
-	Problem string // OHTTPKey, or none
+	Number   int
+	HasPlace bool   // the list writer's UnknownKEM has a place, other calls' have none
+	Place    int    // the first byte of the field at fault, in the list that was read or would be written
+	Found    string // what stands there, of a list that was read: "pair length at byte 37 is 6, not a multiple of 4"
+	Status   int    // the HTTP status to send unprotected, 0 where nothing is sent
+	Problem  string // OHTTPKey, or none
 }
 
 func (r *Refusal) Error() string {
-	if r.Number == BadKeyList {
-		return fmt.Sprintf("refusal %d at %d: %s", r.Number, r.Place, Sentence(r.Number))
+	sentence := r.Found
+	if sentence == "" {
+		sentence = Sentence(r.Number)
 	}
-	return fmt.Sprintf("refusal %d: %s", r.Number, Sentence(r.Number))
+	if r.HasPlace {
+		return fmt.Sprintf("refusal %d at %d: %s", r.Number, r.Place, sentence)
+	}
+	return fmt.Sprintf("refusal %d: %s", r.Number, sentence)
 }
 
 // IsRefusal says whether an error is the refusal of this number.
@@ -77,12 +92,62 @@ func IsRefusal(err error, number int) bool {
 }
 
 func refused(outcome C.sealwax_outcome) error {
+	return refusedOfList(outcome, nil)
+}
+
+// refusedOfList is the same of a call that has read this list.
+func refusedOfList(outcome C.sealwax_outcome, list []byte) error {
 	if outcome.number == C.SEALWAX_ACCEPTED {
 		return nil
 	}
-	refusal := &Refusal{Number: int(outcome.number), Place: int(outcome.place), Status: int(outcome.status)}
+	refusal := &Refusal{
+		Number:   int(outcome.number),
+		HasPlace: bool(outcome.has_place),
+		Place:    int(outcome.place),
+		Status:   int(outcome.status),
+	}
+	if refusal.HasPlace && refusal.Place <= len(list) {
+		refusal.Found = found(refusal.Number, refusal.Place, list[refusal.Place:])
+	}
 	if outcome.problem == C.SEALWAX_OHTTP_KEY {
 		refusal.Problem = OHTTPKey
 	}
 	return refusal
+}
+
+// found says what is wrong with the field that stands at the front of these bytes of a list, at this place of it; nothing where the list
+// ends before the field does, save for ListTruncated.
+func found(number, place int, field []byte) string {
+	if number == DuplicateKeyID && len(field) > 0 {
+		return fmt.Sprintf("key id at byte %d is %d, as that of an earlier configuration", place, field[0])
+	}
+	if len(field) < 2 {
+		if number == ListTruncated {
+			return fmt.Sprintf("no configuration with a whole length at byte %d", place)
+		}
+		return ""
+	}
+	length := binary.BigEndian.Uint16(field)
+	switch number {
+	case ListTruncated:
+		return fmt.Sprintf("length at byte %d is %d, and the list ends before so many bytes", place, length)
+	case LengthMismatch:
+		return fmt.Sprintf("length at byte %d is %d, and the contents have another", place, length)
+	case BadPairLength:
+		return fmt.Sprintf("pair length at byte %d is %d, %s", place, length, pairRule(length))
+	case TooManyConfigurations:
+		return fmt.Sprintf("a seventeenth configuration at byte %d", place)
+	}
+	return ""
+}
+
+// pairRule says which rule a pair length breaks.
+func pairRule(length uint16) string {
+	switch {
+	case length == 0:
+		return "and there must be a pair"
+	case length%4 != 0:
+		return "not a multiple of 4"
+	}
+	return "above 64"
 }

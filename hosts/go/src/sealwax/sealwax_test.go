@@ -2,8 +2,10 @@ package sealwax
 
 import (
 	"bytes"
+	"encoding/binary"
 	"encoding/hex"
 	"errors"
+	"fmt"
 	"sync"
 	"testing"
 )
@@ -67,21 +69,72 @@ func TestKeyList(t *testing.T) {
 	}
 	_, err = PublicKey(list, 8)
 	wants(t, err, Refusal{Number: NoSuchKey})
-	_, _, err = Check(append(list, list...))
-	wants(t, err, Refusal{Number: BadKeyList, Place: 43})
-	_, err = Setup(append(list, list...), 1)
-	wants(t, err, Refusal{Number: BadKeyList, Place: 43})
 	for _, keyCap := range []uint64{0, 1_000_000_001, 1 << 63} {
 		_, err = Setup(list, keyCap)
 		wants(t, err, Refusal{Number: CapOutOfRange})
 	}
-	for _, empty := range [][]byte{nil, {}} {
-		_, _, err = Check(empty)
-		wants(t, err, Refusal{Number: BadKeyList})
-		_, err = Setup(empty, 1)
-		wants(t, err, Refusal{Number: BadKeyList})
-		_, err = Choose(empty, nil, nil)
-		wants(t, err, Refusal{Number: BadKeyList})
+}
+
+// damaged is 01's list with another length and another pair length.
+func damaged(t *testing.T, length, pairLength uint16) []byte {
+	list := edgeList(t)
+	binary.BigEndian.PutUint16(list, length)
+	binary.BigEndian.PutUint16(list[37:], pairLength)
+	return list
+}
+
+// Every reader of lists says what is wrong, where, and what stands there.
+func TestDamagedLists(t *testing.T) {
+	list := edgeList(t)
+	var seventeen []byte
+	for id := byte(0); id < 17; id++ {
+		one := edgeList(t)
+		one[2] = id
+		seventeen = append(seventeen, one...)
+	}
+	for _, damage := range []struct {
+		list          []byte
+		number, place int
+		found         string
+	}{
+		{nil, ListTruncated, 0, "no configuration with a whole length at byte 0"},
+		{[]byte{}, ListTruncated, 0, "no configuration with a whole length at byte 0"},
+		{append(edgeList(t), 0), ListTruncated, 43, "no configuration with a whole length at byte 43"},
+		{damaged(t, 42, 4), ListTruncated, 0, "length at byte 0 is 42, and the list ends before so many bytes"},
+		{damaged(t, 41, 8), LengthMismatch, 0, "length at byte 0 is 41, and the contents have another"},
+		{unhex(t, "0002 07 00"), LengthMismatch, 0, "length at byte 0 is 2, and the contents have another"},
+		{damaged(t, 41, 6), BadPairLength, 37, "pair length at byte 37 is 6, not a multiple of 4"},
+		{damaged(t, 41, 0), BadPairLength, 37, "pair length at byte 37 is 0, and there must be a pair"},
+		{damaged(t, 41, 68), BadPairLength, 37, "pair length at byte 37 is 68, above 64"},
+		{append(edgeList(t), list...), DuplicateKeyID, 45, "key id at byte 45 is 7, as that of an earlier configuration"},
+		{seventeen, TooManyConfigurations, 688, "a seventeenth configuration at byte 688"},
+	} {
+		want := Refusal{Number: damage.number, HasPlace: true, Place: damage.place, Found: damage.found}
+		_, _, err := Check(damage.list)
+		wants(t, err, want)
+		if text := fmt.Sprintf("refusal %d at %d: %s", damage.number, damage.place, damage.found); err.Error() != text {
+			t.Errorf("%q, want %q", err, text)
+		}
+		_, err = PublicKey(damage.list, 7)
+		wants(t, err, want)
+		_, err = Setup(damage.list, 1)
+		wants(t, err, want)
+		_, err = Choose(damage.list, nil, nil)
+		wants(t, err, want)
+	}
+}
+
+// A place is asked of the answer and not of the number: the list writer's unknown KEM has one, and others have none.
+func TestPlace(t *testing.T) {
+	_, err := WriteList([]Configuration{{7, 0x0030, make([]byte, 32), []Pair{{1, 3}}}})
+	wants(t, err, Refusal{Number: UnknownKEM, HasPlace: true, Place: 3})
+	if err.Error() != "refusal 3 at 3: KEM unknown" {
+		t.Error(err)
+	}
+	_, _, err = Head(Choice{KeyID: 7, KEM: 0x0030, Pair: Pair{1, 3}}, make([]byte, 32))
+	wants(t, err, Refusal{Number: UnknownKEM})
+	if err.Error() != "refusal 3: KEM unknown" {
+		t.Error(err)
 	}
 }
 
@@ -92,11 +145,13 @@ func TestWriteList(t *testing.T) {
 		t.Fatal(list, err)
 	}
 	_, err = WriteList([]Configuration{one, one})
-	wants(t, err, Refusal{Number: BadKeyList, Place: 43})
+	wants(t, err, Refusal{Number: DuplicateKeyID, HasPlace: true, Place: 45})
 	_, err = WriteList(nil)
-	wants(t, err, Refusal{Number: BadKeyList})
-	_, err = WriteList([]Configuration{{ID: 7, KEM: 0x0020, PublicKey: one.PublicKey}})
-	wants(t, err, Refusal{Number: BadKeyList})
+	wants(t, err, Refusal{Number: ListTruncated, HasPlace: true})
+	_, err = WriteList([]Configuration{one, {ID: 8, KEM: 0x0020, PublicKey: one.PublicKey[:31]}})
+	wants(t, err, Refusal{Number: LengthMismatch, HasPlace: true, Place: 43})
+	_, err = WriteList([]Configuration{one, {ID: 8, KEM: 0x0020, PublicKey: one.PublicKey}})
+	wants(t, err, Refusal{Number: BadPairLength, HasPlace: true, Place: 80})
 
 	// The longest list there is: sixteen of the longest key with sixteen pairs.
 	var most []Configuration
@@ -110,6 +165,8 @@ func TestWriteList(t *testing.T) {
 	if n, skipped, err := Check(list); n != MostKeys || skipped != 0 || err != nil {
 		t.Fatal(n, skipped, err)
 	}
+	_, err = WriteList(append(most, one))
+	wants(t, err, Refusal{Number: TooManyConfigurations, HasPlace: true, Place: LongestList})
 }
 
 // A configuration with an unknown KEM is skipped, here one of 3 bytes with the key id of the one that is read.
@@ -141,9 +198,6 @@ func TestSkipped(t *testing.T) {
 	wants(t, err, Refusal{Number: NoSuchKey})
 	_, err = Choose(unknown, []KEM{0x0030, 0x0020}, []Pair{{1, 3}})
 	wants(t, err, Refusal{Number: NoUsableConfiguration})
-	// Below 3 bytes it is bad.
-	_, _, err = Check(unhex(t, "0002 07 00"))
-	wants(t, err, Refusal{Number: BadKeyList})
 }
 
 // TestEdges goes through 01's edges.
@@ -410,8 +464,8 @@ func TestLock(t *testing.T) {
 // Each number has its own sentence, so that what goes out tells refusals apart.
 func TestSentences(t *testing.T) {
 	seen := map[string]int{}
-	for number := TooShort; number <= CapOutOfRange; number++ {
-		if number == 10 { // kept free
+	for number := TooShort; number <= TooManyConfigurations; number++ {
+		if number == 10 || number == 15 { // kept free, and no longer given
 			continue
 		}
 		sentence := Sentence(number)

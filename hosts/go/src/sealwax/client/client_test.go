@@ -243,22 +243,25 @@ func around(change func([]byte) []byte) func(http.Handler) http.Handler {
 
 // A list with a fault is discarded whole, however much of it is good, and nothing is sent.
 func TestBadList(t *testing.T) {
-	for name, damage := range map[string]func([]byte) []byte{
-		"empty":   func([]byte) []byte { return nil },
-		"cut":     func(list []byte) []byte { return list[:len(list)-1] },
-		"doubled": func(list []byte) []byte { return append(list, list...) },
-		"short":   func(list []byte) []byte { return append(list, 0, 2, 9, 0) },
-		"too long": func(list []byte) []byte {
+	for name, bad := range map[string]struct {
+		number int
+		damage func([]byte) []byte
+	}{
+		"empty":   {sealwax.ListTruncated, func([]byte) []byte { return nil }},
+		"cut":     {sealwax.ListTruncated, func(list []byte) []byte { return list[:len(list)-1] }},
+		"doubled": {sealwax.DuplicateKeyID, func(list []byte) []byte { return append(list, list...) }},
+		"short":   {sealwax.LengthMismatch, func(list []byte) []byte { return append(list, 0, 2, 9, 0) }},
+		"too long": {sealwax.TooManyConfigurations, func(list []byte) []byte {
 			for len(list) <= sealwax.LongestListRead {
 				list = append(list, unknown(65535-3)...)
 			}
 			return list
-		},
+		}},
 	} {
 		t.Run(name, func(t *testing.T) {
 			var count counter
-			_, c := serve(t, func(next http.Handler) http.Handler { return count.around(around(damage)(next)) })
-			if _, err := c.Send(context.Background(), nil); !sealwax.IsRefusal(err, sealwax.BadKeyList) {
+			_, c := serve(t, func(next http.Handler) http.Handler { return count.around(around(bad.damage)(next)) })
+			if _, err := c.Send(context.Background(), nil); !sealwax.IsRefusal(err, bad.number) {
 				t.Errorf("%v", err)
 			}
 			count.want(t, 1, 0)
@@ -356,7 +359,7 @@ func TestLongestList(t *testing.T) {
 	}))
 	defer endless.Close()
 	c = New(endless.URL, endless.URL)
-	if _, err := c.Send(context.Background(), nil); !sealwax.IsRefusal(err, sealwax.BadKeyList) {
+	if _, err := c.Send(context.Background(), nil); !sealwax.IsRefusal(err, sealwax.TooManyConfigurations) {
 		t.Errorf("%v", err)
 	}
 	if written := <-ended; written == most {

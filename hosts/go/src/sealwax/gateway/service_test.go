@@ -675,8 +675,8 @@ func (f *fixture) jsonStatus() gateway.Status {
 func TestSetupRefused(t *testing.T) {
 	keys := twoKeys(t)
 	for number, config := range map[int]gateway.Config{
-		sealwax.BadKeyList:    {Keys: []gateway.Key{keys[0], keys[0]}, Cap: 1},
-		sealwax.CapOutOfRange: {Keys: keys},
+		sealwax.DuplicateKeyID: {Keys: []gateway.Key{keys[0], keys[0]}, Cap: 1},
+		sealwax.CapOutOfRange:  {Keys: keys},
 	} {
 		if _, err := gateway.New(config); !sealwax.IsRefusal(err, number) {
 			t.Errorf("%v, want refusal %d", err, number)
