@@ -1,16 +1,13 @@
 -- The starred edges that need no gateway, and those of A1 and A2, computed.
 -- Assumes nothing.
-use mathlib.Core.Path.{_≡_, refl}
-use mathlib.Core.List.{[], _∷_, _++_, flatten}
-use lib.ListN.{replicate}
-use Rattle.wire.specs.Refusals.{refusedAt}
+use mathlib.Core.Path.{refl}
+use mathlib.Core.List.{flatten}
 use Rattle.algorithms.specs.Sizes.{knownKem, publicKeyLength}
 use Rattle.algorithms.specs.Table.{rowOf, table}
 use Rattle.wire.specs.Search.{anyPasses, filtered, find, firstPlace}
 use Rattle.wire.specs.Texts.{ascii, requestLabel}
-use Rattle.keylist.specs.declared.Checked.{Checked}
-use Rattle.keylist.specs.Answers.{checked, startsFrom}
-use Rattle.keylist.specs.Edges.{FaultEdges, ListEdges, SkippingEdges, edgeList, hex, unknownKem}
+use Rattle.keylist.specs.Answers.{startsFrom}
+use Rattle.keylist.specs.Edges.{FaultEdges, ListEdges, SkippingEdges, edgeList, hex}
 use Rattle.keylist.specs.Layout.{configurationAt, faultOf, isSkipped, pairsAt, parse, parseFrom}
 
 pub list-edges : ListEdges
@@ -39,19 +36,14 @@ skipping-edges =
       key = refl;
     }
 
-too-many : checked (flatten (replicate 16 unknownKem) ++ 0xff ∷ []) ≡ Checked.Refused (refusedAt 22 80)
-unfolding hex parse parseFrom faultOf isSkipped knownKem publicKeyLength rowOf table firstPlace anyPasses flatten
-too-many = refl
-
 pub fault-edges : FaultEdges
 unfolding edgeList hex parse parseFrom faultOf isSkipped configurationAt pairsAt knownKem publicKeyLength rowOf table firstPlace anyPasses filtered find startsFrom flatten
 fault-edges =
     record {
-      cutShort = refl;
-      tooShort = refl;
+      pastEnd = refl;
+      endsBeforePairs = refl;
       pairLength = refl;
-      disagrees = refl;
       pairs = refl;
-      later = refl;
-      tooMany = too-many;
+      disagrees = refl;
+      tooMany = refl;
     }

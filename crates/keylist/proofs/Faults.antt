@@ -17,7 +17,7 @@ use Rattle.algorithms.specs.Sizes.{publicKeyLength}
 use Rattle.keylist.specs.Before.{layoutHolds, parseBefore, parseBeforeFrom}
 use Rattle.keylist.specs.Faults.{FieldAtFault, pastEnd, disagrees, pairLength, idTwice, tooMany, PlaceIsTheFields, ReadAsBefore, startBehind}
 use Rattle.keylist.specs.Layout.{Configuration, good, bad, bytesBeforePairs, configurationAt, faultOf, fieldAtFault, followedBy, isSkipped, isWhole, keyEnd, keyIdAt, kemAt, lengthAt, mostConfigurations, nextStart, pairBytesAt, pairBytesHold, parse, parseFrom, refusedFor, Result}
-use Rattle.keylist.proofs.LayoutLaws.{fault-before-pairs, fault-by-id, fault-cut, fault-disagrees, fault-pairs, fault-short, fault-skipped, fault-too-many, no-fault}
+use Rattle.keylist.proofs.LayoutLaws.{fault-before-pairs, fault-by-id, fault-cut, fault-disagrees, fault-pairs, fault-short, fault-skipped, fault-too-many, known-by-length, no-fault, skips-not-known, skips-not-short}
 use Rattle.keylist.proofs.Parsing.{followed, good-at, goodAt, no-refusal, parse-bad, parse-end, parse-fault, parse-more, parse-skip, parse-too-many}
 
 -- two readings are good alike
@@ -94,32 +94,52 @@ module _ (bytes : List ℕ) where
     AtFault : ℕ → Type 0
     AtFault number = FieldAtFault bytes before at number (fieldAtFault at (keyEnd bytes at) number)
 
+    -- what stands at the place, of each number
+    at-18 : length bytes < nextStart bytes at → AtFault 18
+    unfolding AtFault
+    at-18 short = pastEnd refl refl short
+
+    at-22 : more ≡ 0 → before + more ≡ mostConfigurations → at < length bytes → AtFault 22
+    unfolding AtFault
+    at-22 none few inside = tooMany refl refl inside (omega arith)
+
+    module _ (k : isSkipped bytes at ≡ false) (h : nextStart bytes at ≤ length bytes) where
+      at-19 : (lengthAt bytes at ≡ bytesBeforePairs bytes at + pairBytesAt bytes at → ⊥) → AtFault 19
+      unfolding AtFault
+      at-19 other = disagrees refl refl k h other
+
+      at-20 : bytesBeforePairs bytes at ≤ lengthAt bytes at → pairBytesHold (pairBytesAt bytes at) ≡ false → AtFault 20
+      unfolding AtFault
+      at-20 l p = pairLength refl refl k (omega arith) h p
+
+      at-21 : bytesBeforePairs bytes at ≤ lengthAt bytes at → Earlier before (keyIdAt bytes at) → AtFault 21
+      unfolding AtFault Earlier
+      at-21 l (earlier, less, unskipped, same) = idTwice refl refl k (omega arith) earlier less unskipped same
+
     module _ (m : more ≡ 0 → ⊥) (h : nextStart bytes at ≤ length bytes) (ids : Taken taken before) where
       -- the KEM is known, and the pair length can be read
       past-length : 0 < publicKeyLength (kemAt bytes at) → bytesBeforePairs bytes at ≤ lengthAt bytes at
           → (faultOf more taken bytes at ≡ 0 → ⊥) → AtFault (faultOf more taken bytes at)
-      unfolding AtFault Taken Earlier
+      unfolding Taken
       past-length k l f =
+          let read = skips-not-known bytes at (known-by-length (kemAt bytes at) k) in
           either (pairBytesHold (pairBytesAt bytes at))
           (λ p.
           either (eqb (lengthAt bytes at) (bytesBeforePairs bytes at + pairBytesAt bytes at))
           (λ i.
           let same = eqb-true _ _ i in
           either (among taken (keyIdAt bytes at))
-          (λ a.
-          let (earlier, less, unskipped, twice) = ids (keyIdAt bytes at) a in
-          rw (fault-by-id more taken bytes at m h k l p same, a) (idTwice refl refl (omega arith) earlier less unskipped twice))
+          (λ a. rw (fault-by-id more taken bytes at m h k l p same, a) (at-21 read h l (ids (keyIdAt bytes at) a)))
           (λ a. absurd (f (fault-by-id more taken bytes at m h k l p same ∙ rw a))))
-          (λ i.
-          let other = eqb-false _ _ i in
-          rw (fault-disagrees more taken bytes at m h k l p other) (disagrees refl refl h other)))
-          (λ p. rw (fault-pairs more taken bytes at m h k l p) (pairLength refl refl (omega arith) h p))
+          (λ i. let other = eqb-false _ _ i in rw (fault-disagrees more taken bytes at m h k l p other) (at-19 read h other)))
+          (λ p. rw (fault-pairs more taken bytes at m h k l p) (at-20 read h l p))
 
       in-list : (faultOf more taken bytes at ≡ 0 → ⊥) → AtFault (faultOf more taken bytes at)
-      unfolding AtFault
       in-list f =
           either (ltb (lengthAt bytes at) 3)
-          (λ s. let short = ltb-true (lengthAt bytes at) 3 s in rw (fault-short more taken bytes at m h short) (disagrees refl refl h (λ z. omega (arith, z))))
+          (λ s.
+          let short = ltb-true (lengthAt bytes at) 3 s in
+          rw (fault-short more taken bytes at m h short) (at-19 (skips-not-short bytes at h short) h (λ z. omega (arith, z))))
           (λ s.
           let room = ltb-false (lengthAt bytes at) 3 s in
           either (eqb (publicKeyLength (kemAt bytes at)) 0)
@@ -130,20 +150,20 @@ module _ (bytes : List ℕ) where
           either (ltb (lengthAt bytes at) (bytesBeforePairs bytes at))
           (λ l.
           let short = ltb-true (lengthAt bytes at) (bytesBeforePairs bytes at) l in
-          rw (fault-before-pairs more taken bytes at m h k short) (disagrees refl refl h (λ z. omega (arith, z))))
+          rw (fault-before-pairs more taken bytes at m h k short)
+          (at-19 (skips-not-known bytes at (known-by-length (kemAt bytes at) k)) h (λ z. omega (arith, z))))
           (λ l. past-length k (ltb-false (lengthAt bytes at) (bytesBeforePairs bytes at) l) f)))
 
     at-fault : at < length bytes → before + more ≡ mostConfigurations → Taken taken before
         → (faultOf more taken bytes at ≡ 0 → ⊥) → AtFault (faultOf more taken bytes at)
-    unfolding AtFault
     at-fault inside few ids f =
         either (eqb more 0)
-        (λ e. let none = eqb-true more 0 e in rw (fault-too-many more taken bytes at none) (tooMany refl refl inside (omega arith)))
+        (λ e. let none = eqb-true more 0 e in rw (fault-too-many more taken bytes at none) (at-22 none few inside))
         (λ e.
         let m = eqb-false more 0 e in
         either (isWhole bytes at)
         (λ w. in-list m (leb-true (nextStart bytes at) (length bytes) w) ids f)
-        (λ w. let short = leb-false (nextStart bytes at) (length bytes) w in rw (fault-cut more taken bytes at m short) (pastEnd refl refl short)))
+        (λ w. let short = leb-false (nextStart bytes at) (length bytes) w in rw (fault-cut more taken bytes at m short) (at-18 short)))
 
   -- the statement of one refusal
   Placed : Refusal → Type 0

@@ -76,26 +76,14 @@ refusals lists = map checked lists
 
 pub record FaultEdges : Type 0 where
   -- 18: one byte, and L one more than there is
-  pub cutShort : refusals ((0 ∷ []) ∷ listWith 42 4 (hex "00010003") ∷ []) ≡ Checked.Refused (refusedAt 18 0) ∷ Checked.Refused (refusedAt 18 0) ∷ []
-  -- 19: no byte, no room for the KEM, and none for the whole of S, though S would break its rule
-  pub tooShort :
-      refusals (hex "0000" ∷ hex "00020700" ∷ listWith 36 6 (hex "00010003") ∷ [])
-      ≡ Checked.Refused (refusedAt 19 0) ∷ Checked.Refused (refusedAt 19 0) ∷ Checked.Refused (refusedAt 19 0) ∷ []
-  -- 20, at byte 37: S is 0, 6 or 68, the first where L ends behind S, the others where L disagrees as well
-  pub pairLength :
-      refusals (listWith 37 0 [] ∷ listWith 41 6 (hex "00010003") ∷ listWith 41 68 (hex "00010003") ∷ [])
-      ≡ Checked.Refused (refusedAt 20 37) ∷ Checked.Refused (refusedAt 20 37) ∷ Checked.Refused (refusedAt 20 37) ∷ []
-  -- 19: S keeps its rule, and L is one too long, or 4 too short
-  pub disagrees :
-      refusals (listWith 42 4 (hex "0001000300") ∷ listWith 41 8 (hex "0001000300010003") ∷ [])
-      ≡ Checked.Refused (refusedAt 19 0) ∷ Checked.Refused (refusedAt 19 0) ∷ []
+  pub pastEnd : refusals ((0 ∷ []) ∷ listWith 42 4 (hex "00010003") ∷ []) ≡ Checked.Refused (refusedAt 18 0) ∷ Checked.Refused (refusedAt 18 0) ∷ []
+  -- 19: no byte, and one too few for S, though S would break its rule
+  pub endsBeforePairs : refusals (hex "0000" ∷ listWith 36 6 [] ∷ []) ≡ Checked.Refused (refusedAt 19 0) ∷ Checked.Refused (refusedAt 19 0) ∷ []
+  -- 20, at byte 37: S is 0, and S is 6, where L disagrees as well
+  pub pairLength : refusals (listWith 37 0 [] ∷ listWith 41 6 (hex "00010003") ∷ []) ≡ Checked.Refused (refusedAt 20 37) ∷ Checked.Refused (refusedAt 20 37) ∷ []
   -- sixteen pairs are read; a seventeenth is 20
-  pub pairs :
-      refusals (listWith 101 64 (replicate 64 0) ∷ listWith 105 68 (replicate 68 0) ∷ [])
-      ≡ Checked.Good 1 0 ∷ Checked.Refused (refusedAt 20 37) ∷ []
-  -- in a later configuration: 20 at its own S, and 19 before 21, where its key id is taken too
-  pub later :
-      refusals ((edgeList ++ listWith 41 6 (hex "00010003")) ∷ (edgeList ++ listWith 42 4 (hex "0001000300")) ∷ [])
-      ≡ Checked.Refused (refusedAt 20 80) ∷ Checked.Refused (refusedAt 19 43) ∷ []
+  pub pairs : refusals (listWith 101 64 (replicate 64 0) ∷ listWith 105 68 (replicate 68 0) ∷ []) ≡ Checked.Good 1 0 ∷ Checked.Refused (refusedAt 20 37) ∷ []
+  -- 19 before 21, in a second configuration: S keeps its rule, L is one too long, and the key id is taken
+  pub disagrees : checked (edgeList ++ listWith 42 4 (hex "0001000300")) ≡ Checked.Refused (refusedAt 19 43)
   -- 22 before 18: a seventeenth that is cut
   pub tooMany : checked (flatten (replicate 16 unknownKem) ++ 0xff ∷ []) ≡ Checked.Refused (refusedAt 22 80)

@@ -21,14 +21,15 @@ pub data FieldAtFault (bytes : List ℕ) (before start number place : ℕ) : Typ
   -- the length: fewer bytes follow than it announces, or it does not stand there whole
   pastEnd : number ≡ 18 → place ≡ start → length bytes < place + 2 + wordAt bytes place → FieldAtFault bytes before start number place
   -- the length: so many bytes follow, but the contents have another length
-  disagrees : number ≡ 19 → place ≡ start → place + 2 + wordAt bytes place ≤ length bytes
+  disagrees : number ≡ 19 → place ≡ start → isSkipped bytes start ≡ false → place + 2 + wordAt bytes place ≤ length bytes
       → (wordAt bytes place ≡ 5 + publicKeyLength (kemAt bytes start) + pairBytesAt bytes start → ⊥)
       → FieldAtFault bytes before start number place
   -- the pair length, whole in its configuration: it breaks its rule
-  pairLength : number ≡ 20 → place ≡ keyEnd bytes start → place + 2 ≤ nextStart bytes start → nextStart bytes start ≤ length bytes
+  pairLength : number ≡ 20 → place ≡ keyEnd bytes start → isSkipped bytes start ≡ false
+      → place + 2 ≤ nextStart bytes start → nextStart bytes start ≤ length bytes
       → pairBytesHold (wordAt bytes place) ≡ false → FieldAtFault bytes before start number place
   -- the key id: an earlier configuration that was read has the same
-  idTwice : number ≡ 21 → place ≡ start + 2 → place < length bytes
+  idTwice : number ≡ 21 → place ≡ start + 2 → isSkipped bytes start ≡ false → place < length bytes
       → (earlier : ℕ) → earlier < before → isSkipped bytes (startBehind earlier bytes) ≡ false
       → keyIdAt bytes (startBehind earlier bytes) ≡ byteAt bytes place → FieldAtFault bytes before start number place
   -- the length of the seventeenth configuration

@@ -1,4 +1,4 @@
--- What is skipped is not written, computed.
+-- What is skipped is not written, and the list writer's numbers and places, computed.
 -- Assumes nothing.
 use mathlib.Core.Path.{refl}
 use mathlib.Core.List.{flatMap}
@@ -9,7 +9,7 @@ use Rattle.keylist.specs.Answers.{startsFrom}
 use Rattle.keylist.specs.Edges.{edgeList, hex}
 use Rattle.keylist.specs.Layout.{configurationAt, faultOf, isSkipped, pairsAt, parse, parseFrom}
 use Rattle.listwriter.specs.Writer.{cut, encode, encodeBehind, faultOfGiven}
-use Rattle.listwriter.specs.Edges.{SkippedIsNotWritten}
+use Rattle.listwriter.specs.Edges.{SkippedIsNotWritten, WriterFaults}
 
 pub skipped-is-not-written : SkippedIsNotWritten
 unfolding edgeList hex parse parseFrom faultOf isSkipped configurationAt pairsAt knownKem publicKeyLength rowOf table firstPlace anyPasses filtered startsFrom encode encodeBehind faultOfGiven cut flatMap
@@ -19,4 +19,19 @@ skipped-is-not-written =
       read = refl;
       written = refl;
       lengths = refl;
+    }
+
+pub writer-faults : WriterFaults
+unfolding encode encodeBehind faultOfGiven cut knownKem publicKeyLength rowOf table firstPlace anyPasses
+writer-faults =
+    record {
+      noneGiven = refl;
+      tooMany = refl;
+      unknown = refl;
+      keyLength = refl;
+      pairCount = refl;
+      idTwice = refl;
+      keyMissing = refl;
+      pairsMissing = refl;
+      leftOver = refl;
     }

@@ -92,22 +92,30 @@ func IsRefusal(err error, number int) bool {
 }
 
 func refused(outcome C.sealwax_outcome) error {
-	return refusedOfList(outcome, nil)
+	if outcome.number == C.SEALWAX_ACCEPTED {
+		return nil
+	}
+	return refusalOf(outcome)
 }
 
-// refusedOfList is the same of a call that has read this list.
+// refusedOfList is the same of a call that has read this list: a refusal also says what stands in it.
 func refusedOfList(outcome C.sealwax_outcome, list []byte) error {
 	if outcome.number == C.SEALWAX_ACCEPTED {
 		return nil
 	}
+	refusal := refusalOf(outcome)
+	if refusal.HasPlace && refusal.Place <= len(list) {
+		refusal.Found = found(refusal.Number, refusal.Place, list[refusal.Place:])
+	}
+	return refusal
+}
+
+func refusalOf(outcome C.sealwax_outcome) *Refusal {
 	refusal := &Refusal{
 		Number:   int(outcome.number),
 		HasPlace: bool(outcome.has_place),
 		Place:    int(outcome.place),
 		Status:   int(outcome.status),
-	}
-	if refusal.HasPlace && refusal.Place <= len(list) {
-		refusal.Found = found(refusal.Number, refusal.Place, list[refusal.Place:])
 	}
 	if outcome.problem == C.SEALWAX_OHTTP_KEY {
 		refusal.Problem = OHTTPKey
