@@ -1,4 +1,6 @@
--- The reader before 02, A2, as A1 left it: kept for the one statement that A2 reads the same lists into the same configurations.
+-- The layout's rules as A1 left them, apart from the chain of faults: the test of one configuration, which functions below the entries ask for
+-- too, and the reader, kept for the one statement that A2 reads the same lists into the same configurations. What a configuration's fields are
+-- and which are skipped did not move, and stands in `Layout` for both.
 use Prim.Native.Nat.{ℕ, zero, suc, _+_}
 use mathlib.Core.Bool.{Bool, not}
 use mathlib.Core.List.{List, [], _∷_, _++_}
@@ -10,8 +12,7 @@ use Rattle.wire.specs.Refusals.{refusedAt}
 use Rattle.algorithms.specs.Sizes.{knownKem, publicKeyLength}
 use Rattle.keylist.specs.Layout.{Configuration, good, bad, configurationAt, followedBy, isSkipped, isWhole, keyIdAt, kemAt, lengthAt, mostConfigurations, nextStart, pairBytesAt, pairBytesHold, Result}
 
--- the layout's rules for one configuration that is not skipped: it lies whole in the list, its KEM is known, L = 5 + Npk + S, and S; functions
--- below the entries ask for them too
+-- one configuration that is read: it lies whole in the list, its KEM is known, L = 5 + Npk + S, and S
 unfoldable pub layoutHolds : List ℕ → ℕ → Bool
 layoutHolds bytes at =
     isWhole bytes at

@@ -70,19 +70,17 @@ pub record SkippingEdges : Type 0 where
 abbrev pub listWith : ℕ → ℕ → List ℕ → List ℕ
 listWith size pairBytes behind = wordBytes size ++ hex "070020" ++ replicate 32 0x11 ++ wordBytes pairBytes ++ behind
 
--- what check says of lists
-abbrev pub refusals : List (List ℕ) → List Checked
-refusals lists = map checked lists
-
 pub record FaultEdges : Type 0 where
   -- 18: one byte, and L one more than there is
-  pub pastEnd : refusals ((0 ∷ []) ∷ listWith 42 4 (hex "00010003") ∷ []) ≡ Checked.Refused (refusedAt 18 0) ∷ Checked.Refused (refusedAt 18 0) ∷ []
+  pub pastEnd : map checked ((0 ∷ []) ∷ listWith 42 4 (hex "00010003") ∷ []) ≡ replicate 2 (Checked.Refused (refusedAt 18 0))
   -- 19: no byte, and one too few for S, though S would break its rule
-  pub endsBeforePairs : refusals (hex "0000" ∷ listWith 36 6 [] ∷ []) ≡ Checked.Refused (refusedAt 19 0) ∷ Checked.Refused (refusedAt 19 0) ∷ []
+  pub endsBeforePairs : map checked (hex "0000" ∷ listWith 36 6 [] ∷ []) ≡ replicate 2 (Checked.Refused (refusedAt 19 0))
   -- 20, at byte 37: S is 0, and S is 6, where L disagrees as well
-  pub pairLength : refusals (listWith 37 0 [] ∷ listWith 41 6 (hex "00010003") ∷ []) ≡ Checked.Refused (refusedAt 20 37) ∷ Checked.Refused (refusedAt 20 37) ∷ []
+  pub pairLength : map checked (listWith 37 0 [] ∷ listWith 41 6 (hex "00010003") ∷ []) ≡ replicate 2 (Checked.Refused (refusedAt 20 37))
   -- sixteen pairs are read; a seventeenth is 20
-  pub pairs : refusals (listWith 101 64 (replicate 64 0) ∷ listWith 105 68 (replicate 68 0) ∷ []) ≡ Checked.Good 1 0 ∷ Checked.Refused (refusedAt 20 37) ∷ []
+  pub pairs :
+      map checked (listWith 101 64 (replicate 64 0) ∷ listWith 105 68 (replicate 68 0) ∷ [])
+      ≡ Checked.Good 1 0 ∷ Checked.Refused (refusedAt 20 37) ∷ []
   -- 19 before 21, in a second configuration: S keeps its rule, L is one too long, and the key id is taken
   pub disagrees : checked (edgeList ++ listWith 42 4 (hex "0001000300")) ≡ Checked.Refused (refusedAt 19 43)
   -- 22 before 18: a seventeenth that is cut

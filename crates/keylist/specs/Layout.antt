@@ -95,7 +95,8 @@ abbrev pub bytesBeforePairs : List ℕ → ℕ → ℕ
 bytesBeforePairs bytes at = 5 + publicKeyLength (kemAt bytes at)
 
 -- 02, A2: "tested in the order 22, 18, 20, 19, 21 for each configuration; where the configuration ends before its pair length can be read,
--- it is 19". The first fault of a configuration, where so many may still come and these key ids are taken; 0 where it has none
+-- it is 19". The first fault of a configuration, where so many may still come, this one counted, and these key ids are taken; 0 where it has
+-- none or is skipped
 unfoldable pub faultOf : ℕ → List ℕ → List ℕ → ℕ → ℕ
 faultOf more taken bytes at =
     22 when eqb more 0 otherwise

@@ -2,7 +2,6 @@
 ghost use mathlib.Core.Path.{_≡_};
 ghost use Prim.Native.Nat.{_+_, _^_, _<_, _≤_};
 ghost use lib.ListN.{length};
-ghost use Rattle.wire.specs.Refusals.{refusedAt};
 ghost use Rattle.algorithms.specs.Sizes.{publicKeyLength};
 ghost use Rattle.keylist.specs.Layout.{faultOf, fieldAtFault, isSkipped, kemAt, nextStart, pairBytesHold};
 ghost use Rattle.keylist.specs.Answers.{checked};
@@ -42,8 +41,8 @@ fn next_start(list: &[u8], at: usize) -> usize
     at + 2 + (word_at(list, at) as usize)
 }
 
-// The first fault of the configuration at an offset of the list, whose KEM has such a key length, 0 where there is none or where it is
-// skipped; so many may still come.
+// The first fault of the configuration at an offset of the list, 0 where it has none or is skipped. `key` is its KEM's key length, 0 where
+// that is unknown; `more` is how many may still come, this one counted.
 fn fault(list: &[u8], at: usize, key: usize, more: usize, taken: &[u8]) -> u8
     requires { ⌜ (at < length (now list)) × (key ≡ publicKeyLength (kemAt (now list) at)) × (key ≤ 133) ⌝ }
     ensures { λ r. ⌜ r ≡ faultOf more (now (taken .entry)) (now (list .entry)) at ⌝ }

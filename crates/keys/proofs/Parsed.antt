@@ -5,12 +5,12 @@ use mathlib.Core.Bool.{false, not}
 use mathlib.Core.List.{List, [], _∷_, _++_, map}
 use Prim.Native.Nat.{ℕ, suc, _≤_}
 use native.Mathlib.Omega.{arith}
-use borrow.Author.Tests.{ne-eqb, eqb-false, not-true}
+use borrow.Author.Tests.{ne-eqb, eqb-false}
 use lib.Dec.{eqb}
 use lib.ListN.{length}
 use Rattle.wire.specs.Search.{among, anyPasses}
-use Rattle.wire.proofs.Booleans.{either, and-right, true-or-false}
-use Rattle.keylist.specs.Layout.{Configuration, good, parse, configurationAt, keyIdAt, mostConfigurations}
+use Rattle.wire.proofs.Booleans.{either, true-or-false}
+use Rattle.keylist.specs.Layout.{Configuration, good, parse, configurationAt, mostConfigurations}
 use Rattle.keylist.proofs.Parsing.{by-reading, not-taken}
 use Rattle.keylist.proofs.Walk.{parse-all}
 

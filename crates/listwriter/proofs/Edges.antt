@@ -34,4 +34,5 @@ writer-faults =
       keyMissing = refl;
       pairsMissing = refl;
       leftOver = refl;
+      seventeenth = refl;
     }

@@ -11,7 +11,6 @@ use lib.Dec.{leb}
 use lib.ListN.{length, drop, take-append-drop, length-append, length-drop, drop-of-length-le}
 use lib.Seq.{length-take-le, take-append-seam, drop-append-seam, drop-drop, drop-cons}
 use borrow.Author.Tests.{le-leb, lt-leb, eq-eqb}
-use Rattle.wire.specs.Tests.{_and_}
 use Rattle.wire.specs.Bytes.{byteAt, wordAt, wordBytes, part}
 use Rattle.listwriter.specs.Writer.{faultOfGiven, wordsBytes}
 use Rattle.wire.specs.Search.{among}

@@ -26,26 +26,32 @@ pub record SkippedIsNotWritten : Type 0 where
   pub written : encode (idsOf readBehind) (asFields readBehind) ≡ good edgeList
   pub lengths : length behindSkipped ∷ length edgeList ∷ [] ≡ 48 ∷ 43 ∷ []
 
--- 02, A2: 01's configuration, and a second one with this key id, KEM, public key length and so many pair numbers; all that is announced is there
-abbrev pub two : ℕ → ℕ → ℕ → ℕ → Result (List ℕ)
-two keyId kem keyLength pairCount =
+-- 02, A2: 01's configuration, and a second one with this key id, KEM, public key length and so many pair numbers; all that is announced is
+-- there
+abbrev pub secondWith : ℕ → ℕ → ℕ → ℕ → Result (List ℕ)
+secondWith keyId kem keyLength pairCount =
     encode (7 ∷ keyId ∷ [])
     (fields (0x0020 ∷ kem ∷ []) (32 ∷ keyLength ∷ []) (replicate (32 + keyLength) 0x11) (2 ∷ pairCount ∷ []) (replicate (2 + pairCount) 1))
 
 -- 01's configuration with so many key bytes and pair numbers there
-abbrev pub one : ℕ → ℕ → Result (List ℕ)
-one keyBytes pairNumbers =
+abbrev pub oneWith : ℕ → ℕ → Result (List ℕ)
+oneWith keyBytes pairNumbers =
     encode (7 ∷ []) (fields (0x0020 ∷ []) (32 ∷ []) (replicate keyBytes 0x11) (2 ∷ []) (replicate pairNumbers 1))
 
 -- each number, where the configuration has every fault that is tested later as well
 pub record WriterFaults : Type 0 where
   pub noneGiven : encode [] (fields (0x0030 ∷ []) [] [] [] []) ≡ bad (refusedAt 18 0)
-  pub tooMany : faultOfGiven 16 true 0x0030 0 0 0 0 ≡ 22
-  pub unknown : two 7 0x0030 31 3 ≡ bad (refusedAt 3 46)
-  pub keyLength : two 7 0x0020 31 3 ≡ bad (refusedAt 19 43)
-  pub pairCount : two 7 0x0020 32 3 ≡ bad (refusedAt 20 80)
-  pub idTwice : two 7 0x0020 32 2 ≡ bad (refusedAt 21 45)
+  pub tooMany : faultOfGiven 16 true 0x0030 1 0 1 0 ≡ 22
+  pub unknown : secondWith 7 0x0030 31 3 ≡ bad (refusedAt 3 46)
+  pub keyLength : secondWith 7 0x0020 31 3 ≡ bad (refusedAt 19 43)
+  pub pairCount : secondWith 7 0x0020 32 3 ≡ bad (refusedAt 20 80)
+  pub idTwice : secondWith 7 0x0020 32 2 ≡ bad (refusedAt 21 45)
   -- a key byte or a pair number that is not there, and one that is left over
-  pub keyMissing : one 31 1 ≡ bad (refusedAt 19 0)
-  pub pairsMissing : one 32 1 ≡ bad (refusedAt 20 37)
-  pub leftOver : one 33 2 ∷ one 32 3 ∷ [] ≡ bad (refusedAt 19 43) ∷ bad (refusedAt 19 43) ∷ []
+  pub keyMissing : oneWith 31 1 ≡ bad (refusedAt 19 0)
+  pub pairsMissing : oneWith 32 1 ≡ bad (refusedAt 20 37)
+  pub leftOver : oneWith 33 2 ∷ oneWith 32 3 ∷ [] ≡ replicate 2 (bad (refusedAt 19 43))
+  -- a seventeenth, of sixteen that are good
+  pub seventeenth :
+      encode (0 ∷ 1 ∷ 2 ∷ 3 ∷ 4 ∷ 5 ∷ 6 ∷ 7 ∷ 8 ∷ 9 ∷ 10 ∷ 11 ∷ 12 ∷ 13 ∷ 14 ∷ 15 ∷ 16 ∷ [])
+      (fields (replicate 17 0x0020) (replicate 17 32) (replicate 544 0x11) (replicate 17 2) (replicate 34 1))
+      ≡ bad (refusedAt 22 688)

@@ -1,4 +1,4 @@
-// List writer (01, "List writer"): key lists from configurations that are given as slices: key ids, KEMs, public key lengths, the
+// List writer (01, "List writer"; 02, A2): key lists from configurations that are given as slices: key ids, KEMs, public key lengths, the
 // key bytes of all, how many pair numbers each has, and the pair numbers of all, KDF and AEAD by turns.
 ghost use mathlib.Core.Path.{_≡_};
 ghost use Prim.Native.Nat.{_+_, _*_, _≤_, _<_};

@@ -2,7 +2,7 @@
 ghost use mathlib.Core.Path.{_≡_};
 ghost use Rattle.wire.specs.Refusals.{refused, refusedAt};
 
-// A refusal: its number, and whether it has a place, which is 0 where it has none.
+// A refusal: its number, whether it has a place, and the place, 0 where it has none.
 pub struct Refusal {
     pub number: u8,
     pub has_place: bool,

@@ -9,8 +9,6 @@ use native.Mathlib.Omega.{arith}
 use borrow.Author.Needs.{needs}
 use Rattle.wire.specs.Tests.{_and_}
 use Rattle.wire.specs.Refusals.{_when_otherwise_}
-use Rattle.wire.proofs.Booleans.{and-false}
-use Rattle.algorithms.specs.Sizes.{publicKeyLength}
 use Rattle.keylist.specs.Layout.{pairBytesHold}
 use Rattle.keylist.proofs.LayoutLaws.{known-by-length, pairs-above, unknown-by-length}
 use Rattle.listwriter.specs.Writer.{faultOfGiven}

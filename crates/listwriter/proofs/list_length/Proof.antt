@@ -52,6 +52,9 @@ holding c =
     let s = c .before .before .before .before in
     at-says (ids s) (given s) (at s .index) (at s .at) (at s .«key_at») (at s .«pair_at») (omega arith) (passed c)
 
+returns : tie.Need-returns Inv-loop μ-loop
+returns c = rw (encode-none _ _ (c .before .if1 .taken), c .at .ensures)
+
 loop-holds : tie.Need-loop-holds Inv-loop μ-loop
 loop-holds c =
     let s = c .start .ensures in
@@ -121,6 +124,6 @@ returns-4 c =
 
 pub list-length-spec : {M : Type 1} → statement M
 list-length-spec = tie.close (tie.spec Inv-loop μ-loop (λ c κs. search needs)
-    (λ c. rw (encode-none _ _ (c .before .if1 .taken), c .at .ensures)) (λ c κs. search needs) loop-holds
+    returns (λ c κs. search needs) loop-holds
     (λ c κs. search needs) (λ c κs. search needs) refused-requires returns-2 (λ c κs. search needs) (λ c κs. search needs) next-requires
     (λ c. search needs) loop-again (λ c κs. search needs) (λ c κs. search needs) returns-3 returns-4)

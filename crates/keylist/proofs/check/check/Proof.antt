@@ -3,15 +3,15 @@
 -- Assumes nothing.
 use native.Mathlib.Nat.{add-zero}
 use native.Mathlib.Numerals.{add-one}
-use mathlib.Core.Bool.{true}
 use mathlib.Core.List.{[], _∷_, _++_}
 use lib.ListN.{length-take, length-set, length, take, set}
 use lib.Seq.{take-suc-set}
-use Rattle.keylist.proofs.Parsing.{parse-end, parse-fault, parse-skip, parse-more, parse-some, parse-none, counted, counted-none, counted-read, counted-skip, goodAt, holding, skipsFrom, skips-end, skips-one, skips-none, skipped-by-key, good-by-key, some-more}
+use Rattle.keylist.proofs.Parsing.{parse-end, parse-fault, parse-skip, parse-more, parse-some, parse-none, counted, counted-none, counted-read, counted-skip, holding, skipsFrom, skips-end, skips-one, skips-none, skipped-by-key, good-by-key, some-more}
 use Rattle.keylist.proofs.LayoutLaws.{skipped, held-not-skipped}
 use Rattle.algorithms.specs.Sizes.{publicKeyLength}
+use Rattle.keylist.specs.declared.Checked.{Checked}
 use Rattle.keylist.specs.Answers.{checked}
-use Rattle.keylist.specs.Layout.{faultOf, parseFrom, keyIdAt, kemAt, isSkipped, nextStart}
+use Rattle.keylist.specs.Layout.{faultOf, keyEnd, keyIdAt, kemAt, parseFrom, refusedFor}
 use mathlib.Core.Path.{_≡_, refl, sym, _∙_, ap}
 use Prim.Native.Nat.{ℕ, suc, _+_, _-_, _≤_}
 use native.Mathlib.Omega.{arith}
@@ -47,19 +47,19 @@ fault-requires c κs = (omega arith, key-read (c .before), omega arith)
 returns-2 : tie.Need-returns-2 Inv-loop μ-loop
 unfolding counted
 returns-2 c =
-    let l = c .before .before .before .before .before .before .before .before .loop in
-    let list = c .before .before .before .before .before .before .before .before .before .before .before .args .list .now in
     let found = c .before .before .before in
-    let key = key-read (found .before .before) in
+    let s = found .before .before .before .before .before in
+    let l = s .loop in
+    let list = s .before .before .before .args .list .now in
+    let more = 16 - (l .read + l .skipped) in
     let taken = take (l .read) (l .taken) in
-    rw (
-      l .inv .3,
-      parse-fault (16 - (l .read + l .skipped)) taken list (l .at) (omega arith) (rw (found .fault .ensures) at (c .before .before .if2 .taken)),
-      c .at2 .ensures,
-      c .before .field-at-fault .ensures,
-      found .fault .ensures,
-      key,
-    )
+    let key = key-read (found .before .before) in
+    let fault = rw (found .fault .ensures) at (c .before .before .if2 .taken) in
+    let answer : checked list ≡ Checked.Refused (refusedFor (l .at) (keyEnd list (l .at)) (faultOf more taken list (l .at))) =
+    rw (l .inv .3, parse-fault more taken list (l .at) (omega arith) fault) in
+    let given : c .at2 .result ≡ refusedFor (l .at) (keyEnd list (l .at)) (faultOf more taken list (l .at)) =
+    cc (c .at2 .ensures, c .before .field-at-fault .ensures, found .fault .ensures, key) in
+    ap Checked.Refused given ∙ sym answer
 
 -- no fault, where one more may come
 no-fault-here : (c : tie.Else2 Inv-loop μ-loop)
