@@ -68,8 +68,8 @@ enum sealwax_refusal {
     SEALWAX_NO_ROOM = 14,                /* lent buffer too small */
     SEALWAX_NO_USABLE_CONFIGURATION = 16, /* no usable configuration */
     SEALWAX_CAP_OUT_OF_RANGE = 17,       /* cap outside 1 to 1,000,000,000 */
-    SEALWAX_LIST_TRUNCATED = 18,         /* a configuration's length, or the bytes it announces, run past the list's end; or none at all */
-    SEALWAX_LENGTH_MISMATCH = 19,        /* a configuration's length and contents disagree */
+    SEALWAX_LIST_TRUNCATED = 18,         /* a configuration's length, or the bytes it announces, run past the list's end; or no configuration at all */
+    SEALWAX_LENGTH_MISMATCH = 19,        /* a configuration's length and contents disagree; at the list writer, a public key of the wrong length */
     SEALWAX_BAD_PAIR_LENGTH = 20,        /* pair bytes not a multiple of 4, or 0, or above 64 */
     SEALWAX_DUPLICATE_KEY_ID = 21,       /* key id twice */
     SEALWAX_TOO_MANY_CONFIGURATIONS = 22 /* more than sixteen configurations */
@@ -267,11 +267,14 @@ size_t sealwax_find(sealwax_gateway *gateway, uint64_t ticket, uint64_t near);
 /*
  * Whether a key list is good, and how many of its configurations were read and how many skipped. A configuration of at least 3 bytes that
  * lies whole in the list and has an unknown KEM is skipped: its inside is not read and its key id not taken, but it counts towards the
- * sixteen. A host may log how many, so that somebody sees that a list has a KEM which this release does not know. Of a bad list the first
- * bad configuration counts, with its first fault in the order 22, 18, 20, 19, 21. Where it ends before its pair length can be read, it is 19.
- * What stands at the place is then: for 18 a length that announces more bytes than follow, or that does not stand there whole; for 19 a length
- * that is not 5, the public key's and the pairs' bytes; for 20 a pair length that breaks its rule; for 21 a key id that an earlier
- * configuration has; for 22 the length of the seventeenth. Refusals: 22, 18, 20, 19, 21.
+ * sixteen. A host may log how many, so that somebody sees that a list has a KEM which this release does not know. Refusals: 22, 18, 20, 19,
+ * 21, the first fault in this order of the first bad configuration; where it ends before its pair length can be read, it is 19. What stands
+ * at the place:
+ *   22  the length of the seventeenth configuration
+ *   18  a length that announces more bytes than follow, or that does not stand there whole; nothing, at 0, for an empty list
+ *   20  a pair length that is not a multiple of 4, or 0, or above 64
+ *   19  a length that is not 5 + public key bytes + pair bytes
+ *   21  a key id that an earlier configuration, which was read, has too
  */
 sealwax_check_result sealwax_check(const uint8_t *list, size_t list_length);
 
@@ -280,11 +283,10 @@ sealwax_key_result sealwax_key(const uint8_t *list, size_t list_length, uint8_t 
 
 /*
  * Writes configurations given as fields at the front of a buffer: key ids, KEMs and public key lengths, one for each; the key bytes of
- * all; how many pair numbers each has; the pair numbers of all, KDF and AEAD by turns. A KEM, a
- * length or a count that is not there counts as 0. Refusals: 18 where no key id is given; then of each configuration in turn 22, 3 (unknown
- * KEM), 19 (public key of the wrong length, or key bytes that are not there), 20 (pair bytes against their rule, or pair numbers that are
- * not there), 21; 19 for fields that are left over, where one more configuration would start; 14. The places are those of the fields in the
- * list that would be written.
+ * all; how many pair numbers each has; the pair numbers of all, KDF and AEAD by turns. A KEM, a length or a count that is not there counts as
+ * 0. Refusals: 18 where no key id is given; then of each configuration in turn 22, 3 (unknown KEM), 19 (public key of the wrong length, or key
+ * bytes that are not there), 20 (pair bytes against their rule, or pair numbers that are not there), 21; 19 for fields that are left over,
+ * where one more configuration would start; 14. A place is that of the field in the list that would be written.
  */
 sealwax_write_result sealwax_write(const uint8_t *key_ids, size_t key_ids_length, const uint16_t *kems, size_t kems_length,
                                    const size_t *key_lengths, size_t key_lengths_length, const uint8_t *keys, size_t keys_length,

@@ -309,7 +309,8 @@ fn behind_the_largest_configuration() {
     assert_eq!(behind(&unknown(7, 0x22, 3).repeat(16)), Some((22, 65_612)));
 }
 
-/// "Setup, choose, key reader and list writer pass these on": each before its own refusals.
+/// "Setup, choose, key reader ... pass these on": each before its own refusals. The list writer has
+/// its tests in `list_writer`.
 #[test]
 fn they_are_passed_on() {
     let lists = [

@@ -57,7 +57,7 @@ pub struct Configuration<'c> {
 /// let damaged = KeyList::new(&bytes[..46]);
 /// assert_eq!(
 ///     damaged.check().unwrap_err().to_string(),
-///     "length at byte 0 is 45, and the list ends before so many bytes (refusal 18)"
+///     "length at byte 0 is 45, but only 44 bytes follow (refusal 18)"
 /// );
 /// # Ok::<(), sealwax::Refusal>(())
 /// ```
@@ -236,19 +236,76 @@ pub(crate) mod tests {
                 list
             })
             .collect();
-        let lists: [(Vec<u8>, u8, usize, Option<u16>); 8] = [
-            (vec![], 18, 0, None),
-            (vec![0], 18, 0, None),
-            (damaged(42, 4), 18, 0, Some(42)),
-            (damaged(40, 4), 19, 0, Some(40)),
-            (damaged(41, 6), 20, 37, Some(6)),
-            (damaged(41, 0), 20, 37, Some(0)),
-            (edge_list().repeat(2), 21, 45, Some(7)),
-            (seventeen, 22, 688, Some(41)),
+        let lists: [(Vec<u8>, u8, usize, Option<u16>, &str); 10] = [
+            (vec![], 18, 0, None, "there is no configuration at all"),
+            (
+                vec![0],
+                18,
+                0,
+                None,
+                "the list ends within the length at byte 0",
+            ),
+            (
+                damaged(42, 4),
+                18,
+                0,
+                Some(42),
+                "length at byte 0 is 42, but only 41 bytes follow",
+            ),
+            (
+                damaged(40, 4),
+                19,
+                0,
+                Some(40),
+                "length at byte 0 is 40, but its fields need another length",
+            ),
+            (
+                vec![0, 2, 7, 0],
+                19,
+                0,
+                Some(2),
+                "length at byte 0 is 2, but its fields need another length",
+            ),
+            (
+                damaged(41, 6),
+                20,
+                37,
+                Some(6),
+                "pair length at byte 37 is 6, not a multiple of 4",
+            ),
+            (
+                damaged(41, 0),
+                20,
+                37,
+                Some(0),
+                "pair length at byte 37 is 0, and there must be a pair",
+            ),
+            (
+                edge_list().repeat(2),
+                21,
+                45,
+                Some(7),
+                "key id at byte 45 is 7, as that of an earlier configuration",
+            ),
+            (
+                seventeen.clone(),
+                22,
+                688,
+                Some(41),
+                "a seventeenth configuration at byte 688",
+            ),
+            (
+                seventeen[..689].to_vec(),
+                22,
+                688,
+                None,
+                "a seventeenth configuration at byte 688",
+            ),
         ];
-        for (bytes, number, place, value) in lists {
+        for (bytes, number, place, value, sentence) in lists {
             let list = KeyList::new(&bytes);
             let expected = (number, Some((place, value)));
+            let sentence = format!("{sentence} (refusal {number})");
             for refusal in [
                 list.check().unwrap_err(),
                 list.key(7).unwrap_err(),
@@ -256,6 +313,7 @@ pub(crate) mod tests {
                 crate::Gateway::setup(&bytes, 1).map(|_| ()).unwrap_err(),
             ] {
                 assert_eq!(number_and_field(refusal), expected);
+                assert_eq!(refusal.to_string(), sentence);
             }
         }
     }

@@ -44,6 +44,8 @@ impl Unprotected {
 pub struct Field {
     place: usize,
     value: Option<u16>,
+    /// How many bytes of a list that was read stand from the place on.
+    rest: usize,
 }
 
 impl Field {
@@ -126,7 +128,8 @@ pub enum Refusal {
         /// What is to be sent.
         unprotected: Option<Unprotected>,
     },
-    /// 19: a configuration's length and contents disagree.
+    /// 19: a configuration's length and contents disagree; of one that is to be written, the public
+    /// key is not as long as its KEM's keys.
     LengthMismatch {
         /// The length.
         field: Field,
@@ -263,11 +266,16 @@ impl Refusal {
         value: T,
     ) -> Result<T, Refusal> {
         Refusal::or(outcome, value).map_err(|mut refusal| {
-            let is_one_byte = matches!(refusal, Refusal::DuplicateKeyId { .. });
-            let width = if is_one_byte { 1 } else { 2 };
+            let width = match refusal {
+                Refusal::DuplicateKeyId { .. } => 1,
+                // What a refusal that this crate does not know points at, it does not know either.
+                Refusal::Other { .. } => return refusal,
+                _ => 2,
+            };
             if let Some(field) = refusal.field_mut() {
-                let bytes = list.get(field.place..).and_then(|rest| rest.get(..width));
-                field.value = bytes.map(big_endian);
+                let from_place = list.get(field.place..).unwrap_or_default();
+                field.value = from_place.get(..width).map(big_endian);
+                field.rest = from_place.len();
             }
             refusal
         })
@@ -275,41 +283,38 @@ impl Refusal {
 
     fn of(outcome: raw::Outcome) -> Refusal {
         let number = outcome.number;
-        let field = Field {
+        // Whether there is a place is asked of the answer, not of the number.
+        let field = outcome.has_place.then_some(Field {
             place: outcome.place,
             value: None,
-        };
-        // Whether there is a place is asked of the answer, not of the number.
-        let if_placed = Some(field).filter(|_| outcome.has_place);
+            rest: 0,
+        });
         // Status 0: nothing is sent.
         let unprotected = Some(Unprotected::said(outcome)).filter(|said| said.status != 0);
-        match number {
-            1 => Refusal::TooShort(unprotected),
-            2 => Refusal::TooLong(unprotected),
-            3 => Refusal::UnknownKem {
-                field: if_placed,
-                unprotected,
-            },
-            4 => Refusal::NoSuchKey(unprotected),
-            5 => Refusal::OtherKem(unprotected),
-            6 => Refusal::PairNotOffered(unprotected),
-            7 => Refusal::KeyRetired(unprotected),
-            8 => Refusal::KeyUsedUp(unprotected),
-            9 => Refusal::TableFull(unprotected),
-            11 => Refusal::NotPending(unprotected),
-            12 => Refusal::StepNotAllowed(unprotected),
-            13 => Refusal::WrongLength(unprotected),
-            14 => Refusal::NoRoom(unprotected),
-            16 => Refusal::NoUsableConfiguration(unprotected),
-            17 => Refusal::CapOutOfRange(unprotected),
-            18 => Refusal::ListTruncated { field, unprotected },
-            19 => Refusal::LengthMismatch { field, unprotected },
-            20 => Refusal::BadPairLength { field, unprotected },
-            21 => Refusal::DuplicateKeyId { field, unprotected },
-            22 => Refusal::TooManyConfigurations { field, unprotected },
+        match (number, field) {
+            (1, _) => Refusal::TooShort(unprotected),
+            (2, _) => Refusal::TooLong(unprotected),
+            (3, _) => Refusal::UnknownKem { field, unprotected },
+            (4, _) => Refusal::NoSuchKey(unprotected),
+            (5, _) => Refusal::OtherKem(unprotected),
+            (6, _) => Refusal::PairNotOffered(unprotected),
+            (7, _) => Refusal::KeyRetired(unprotected),
+            (8, _) => Refusal::KeyUsedUp(unprotected),
+            (9, _) => Refusal::TableFull(unprotected),
+            (11, _) => Refusal::NotPending(unprotected),
+            (12, _) => Refusal::StepNotAllowed(unprotected),
+            (13, _) => Refusal::WrongLength(unprotected),
+            (14, _) => Refusal::NoRoom(unprotected),
+            (16, _) => Refusal::NoUsableConfiguration(unprotected),
+            (17, _) => Refusal::CapOutOfRange(unprotected),
+            (18, Some(field)) => Refusal::ListTruncated { field, unprotected },
+            (19, Some(field)) => Refusal::LengthMismatch { field, unprotected },
+            (20, Some(field)) => Refusal::BadPairLength { field, unprotected },
+            (21, Some(field)) => Refusal::DuplicateKeyId { field, unprotected },
+            (22, Some(field)) => Refusal::TooManyConfigurations { field, unprotected },
             _ => Refusal::Other {
                 number,
-                field: if_placed,
+                field,
                 unprotected,
             },
         }
@@ -340,20 +345,24 @@ impl Refusal {
 
     /// What is said of the field at fault: what it is, where, and what is wrong with it.
     fn write_field(self, f: &mut fmt::Formatter<'_>) -> fmt::Result {
-        let Some(Field { place, value }) = self.field() else {
+        let Some(Field { place, value, rest }) = self.field() else {
             return Ok(());
         };
         match (self, value) {
             (Refusal::ListTruncated { .. }, Some(length)) => write!(
                 f,
-                "length at byte {place} is {length}, and the list ends before so many bytes"
+                "length at byte {place} is {length}, but only {} bytes follow",
+                rest.saturating_sub(2)
             ),
+            (Refusal::ListTruncated { .. }, None) if rest == 0 => {
+                f.write_str("there is no configuration at all")
+            }
             (Refusal::ListTruncated { .. }, None) => {
-                write!(f, "no configuration with a whole length at byte {place}")
+                write!(f, "the list ends within the length at byte {place}")
             }
             (Refusal::LengthMismatch { .. }, Some(length)) => write!(
                 f,
-                "length at byte {place} is {length}, and the contents have another"
+                "length at byte {place} is {length}, but its fields need another length"
             ),
             (Refusal::LengthMismatch { .. }, None) => write!(
                 f,
@@ -497,6 +506,11 @@ mod tests {
         assert_eq!(admit.field(), None);
         assert_eq!(admit.to_string(), "the KEM is unknown (refusal 3)");
         assert_eq!(Refusal::or(outcome(4, 0, 0), ()).unwrap_err().field(), None);
+        // A newer library may have no place where this one has: nothing is made up.
+        for number in 18..=22 {
+            let refusal = Refusal::or(outcome(number, 0, 0), ()).unwrap_err();
+            assert_eq!((refusal.number(), refusal.field()), (number, None));
+        }
     }
 
     #[test]
@@ -508,17 +522,13 @@ mod tests {
                 .to_string()
         };
         for (number, place, sentence) in [
-            (
-                18,
-                0,
-                "length at byte 0 is 41, and the list ends before so many bytes",
-            ),
-            (18, 8, "no configuration with a whole length at byte 8"),
-            (18, 9, "no configuration with a whole length at byte 9"),
+            (18, 0, "length at byte 0 is 41, but only 7 bytes follow"),
+            (18, 8, "the list ends within the length at byte 8"),
+            (18, 9, "there is no configuration at all"),
             (
                 19,
                 0,
-                "length at byte 0 is 41, and the contents have another",
+                "length at byte 0 is 41, but its fields need another length",
             ),
             (20, 3, "pair length at byte 3 is 6, not a multiple of 4"),
             (20, 5, "pair length at byte 5 is 68, above 64"),
@@ -540,7 +550,7 @@ mod tests {
             );
         }
         for (number, sentence) in [
-            (18, "no configuration with a whole length at byte 43"),
+            (18, "there is no configuration at all"),
             (
                 19,
                 "public key of the configuration at byte 43 is not as long as its KEM's keys",
@@ -557,23 +567,30 @@ mod tests {
                 format!("{sentence} (refusal {number})")
             );
         }
-        // A place past the list has no value, whatever the library says.
-        for number in 18..=22 {
-            let refusal = Refusal::or_in_list(placed(number, usize::MAX), &list, ()).unwrap_err();
+        // A place past the list has no value, whatever the library says; nor has one of a number
+        // that is not known here.
+        for (number, place) in [18, 19, 20, 21, 22, 23].map(|number| (number, usize::MAX)) {
+            let refusal = Refusal::or_in_list(placed(number, place), &list, ()).unwrap_err();
             assert_eq!(refusal.field().and_then(Field::value), None);
         }
+        let refusal = Refusal::or_in_list(placed(23, 0), &list, ()).unwrap_err();
+        assert_eq!(refusal.field().and_then(Field::value), None);
     }
 
     #[test]
     fn no_two_numbers_have_the_same_sentence() {
-        let sentence = |number| {
-            let text = text(placed(number, 0));
+        let sentence = |outcome| {
+            let text = text(outcome);
             text.split(" (").next().unwrap_or("").to_string()
         };
-        let numbers: Vec<u8> = (1..=9).chain(11..=14).chain(16..=23).collect();
-        let mut sentences: Vec<String> = numbers.iter().map(|n| sentence(*n)).collect();
+        // With a place, and those that have a sentence without one.
+        let with = (1..=9).chain(11..=14).chain(16..=23);
+        let with = with.map(|number| sentence(placed(number, 0)));
+        let mut sentences: Vec<String> = with.collect();
+        sentences.extend([3, 23].map(|number| sentence(outcome(number, 0, 0))));
+        let all = sentences.len();
         sentences.sort();
         sentences.dedup();
-        assert_eq!(sentences.len(), numbers.len());
+        assert_eq!(sentences.len(), all);
     }
 }

@@ -54,7 +54,7 @@ func WriteList(configurations []Configuration) ([]byte, error) {
 		first(keyLengths), C.size_t(len(keyLengths)), (*C.uint8_t)(first(keys)), C.size_t(len(keys)),
 		first(pairCounts), C.size_t(len(pairCounts)), first(pairs), C.size_t(len(pairs)),
 		(*C.uint8_t)(first(list)), C.size_t(len(list)))
-	if err := refused(result.outcome); err != nil {
+	if err := refusedToWrite(result.outcome); err != nil {
 		return nil, err
 	}
 	return list[:result.length], nil

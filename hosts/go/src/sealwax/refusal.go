@@ -67,22 +67,21 @@ func Sentence(number int) string { return sentences[number] }
 // A Refusal is the library's numbered answer to a call that it did not accept; such a call has changed nothing.
 type Refusal struct {
 	Number   int
-	HasPlace bool   // the list writer's UnknownKEM has a place, other calls' have none
+	HasPlace bool   // whether Place counts: for ListTruncated to TooManyConfigurations, and for the list writer's UnknownKEM
 	Place    int    // the first byte of the field at fault, in the list that was read or would be written
-	Found    string // what stands there, of a list that was read: "pair length at byte 37 is 6, not a multiple of 4"
+	Found    string // what is wrong there: "pair length at byte 37 is 6, not a multiple of 4"
 	Status   int    // the HTTP status to send unprotected, 0 where nothing is sent
 	Problem  string // OHTTPKey, or none
 }
 
 func (r *Refusal) Error() string {
-	sentence := r.Found
-	if sentence == "" {
-		sentence = Sentence(r.Number)
+	switch {
+	case r.Found != "":
+		return fmt.Sprintf("refusal %d: %s", r.Number, r.Found)
+	case r.HasPlace:
+		return fmt.Sprintf("refusal %d at %d: %s", r.Number, r.Place, Sentence(r.Number))
 	}
-	if r.HasPlace {
-		return fmt.Sprintf("refusal %d at %d: %s", r.Number, r.Place, sentence)
-	}
-	return fmt.Sprintf("refusal %d: %s", r.Number, sentence)
+	return fmt.Sprintf("refusal %d: %s", r.Number, Sentence(r.Number))
 }
 
 // IsRefusal says whether an error is the refusal of this number.
@@ -110,6 +109,18 @@ func refusedOfList(outcome C.sealwax_outcome, list []byte) error {
 	return refusal
 }
 
+// refusedToWrite is the same of a list that would be written.
+func refusedToWrite(outcome C.sealwax_outcome) error {
+	if outcome.number == C.SEALWAX_ACCEPTED {
+		return nil
+	}
+	refusal := refusalOf(outcome)
+	if refusal.HasPlace {
+		refusal.Found = unwritable(refusal.Number, refusal.Place)
+	}
+	return refusal
+}
+
 func refusalOf(outcome C.sealwax_outcome) *Refusal {
 	refusal := &Refusal{
 		Number:   int(outcome.number),
@@ -123,28 +134,48 @@ func refusalOf(outcome C.sealwax_outcome) *Refusal {
 	return refusal
 }
 
-// found says what is wrong with the field that stands at the front of these bytes of a list, at this place of it; nothing where the list
-// ends before the field does, save for ListTruncated.
-func found(number, place int, field []byte) string {
-	if number == DuplicateKeyID && len(field) > 0 {
-		return fmt.Sprintf("key id at byte %d is %d, as that of an earlier configuration", place, field[0])
-	}
-	if len(field) < 2 {
-		if number == ListTruncated {
-			return fmt.Sprintf("no configuration with a whole length at byte %d", place)
-		}
+// found says what is wrong with the field that stands at the front of these bytes of a list, at this place of it; nothing where there is
+// nothing more to say than the number's sentence.
+func found(number, place int, bytes []byte) string {
+	switch {
+	case number == TooManyConfigurations:
+		return fmt.Sprintf("a seventeenth configuration at byte %d", place)
+	case number == ListTruncated && len(bytes) == 0:
+		return "there is no configuration at all"
+	case number == ListTruncated && len(bytes) == 1:
+		return fmt.Sprintf("the list ends within the length at byte %d", place)
+	case number == DuplicateKeyID && len(bytes) > 0:
+		return fmt.Sprintf("key id at byte %d is %d, as that of an earlier configuration", place, bytes[0])
+	case len(bytes) < 2:
 		return ""
 	}
-	length := binary.BigEndian.Uint16(field)
+	length := binary.BigEndian.Uint16(bytes)
 	switch number {
 	case ListTruncated:
-		return fmt.Sprintf("length at byte %d is %d, and the list ends before so many bytes", place, length)
+		return fmt.Sprintf("length at byte %d is %d, but only %d bytes follow", place, length, len(bytes)-2)
 	case LengthMismatch:
-		return fmt.Sprintf("length at byte %d is %d, and the contents have another", place, length)
+		return fmt.Sprintf("length at byte %d is %d, but its fields need another length", place, length)
 	case BadPairLength:
 		return fmt.Sprintf("pair length at byte %d is %d, %s", place, length, pairRule(length))
+	}
+	return ""
+}
+
+// unwritable says the same of a list that would be written, with the field at this place of it.
+func unwritable(number, place int) string {
+	switch number {
+	case ListTruncated:
+		return "there is no configuration at all"
 	case TooManyConfigurations:
 		return fmt.Sprintf("a seventeenth configuration at byte %d", place)
+	case UnknownKEM:
+		return fmt.Sprintf("KEM at byte %d is unknown", place)
+	case LengthMismatch:
+		return fmt.Sprintf("public key of the configuration at byte %d is not as long as its KEM's keys", place)
+	case BadPairLength:
+		return fmt.Sprintf("pair length at byte %d would not be 4 to 64: there must be 1 to 16 pairs", place)
+	case DuplicateKeyID:
+		return fmt.Sprintf("key id at byte %d is that of an earlier configuration", place)
 	}
 	return ""
 }

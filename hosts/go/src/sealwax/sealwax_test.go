@@ -97,22 +97,23 @@ func TestDamagedLists(t *testing.T) {
 		number, place int
 		found         string
 	}{
-		{nil, ListTruncated, 0, "no configuration with a whole length at byte 0"},
-		{[]byte{}, ListTruncated, 0, "no configuration with a whole length at byte 0"},
-		{append(edgeList(t), 0), ListTruncated, 43, "no configuration with a whole length at byte 43"},
-		{damaged(t, 42, 4), ListTruncated, 0, "length at byte 0 is 42, and the list ends before so many bytes"},
-		{damaged(t, 41, 8), LengthMismatch, 0, "length at byte 0 is 41, and the contents have another"},
-		{unhex(t, "0002 07 00"), LengthMismatch, 0, "length at byte 0 is 2, and the contents have another"},
+		{nil, ListTruncated, 0, "there is no configuration at all"},
+		{[]byte{}, ListTruncated, 0, "there is no configuration at all"},
+		{append(edgeList(t), 0), ListTruncated, 43, "the list ends within the length at byte 43"},
+		{damaged(t, 42, 4), ListTruncated, 0, "length at byte 0 is 42, but only 41 bytes follow"},
+		{damaged(t, 41, 8), LengthMismatch, 0, "length at byte 0 is 41, but its fields need another length"},
+		{unhex(t, "0002 07 00"), LengthMismatch, 0, "length at byte 0 is 2, but its fields need another length"},
 		{damaged(t, 41, 6), BadPairLength, 37, "pair length at byte 37 is 6, not a multiple of 4"},
 		{damaged(t, 41, 0), BadPairLength, 37, "pair length at byte 37 is 0, and there must be a pair"},
 		{damaged(t, 41, 68), BadPairLength, 37, "pair length at byte 37 is 68, above 64"},
 		{append(edgeList(t), list...), DuplicateKeyID, 45, "key id at byte 45 is 7, as that of an earlier configuration"},
 		{seventeen, TooManyConfigurations, 688, "a seventeenth configuration at byte 688"},
+		{seventeen[:689], TooManyConfigurations, 688, "a seventeenth configuration at byte 688"},
 	} {
 		want := Refusal{Number: damage.number, HasPlace: true, Place: damage.place, Found: damage.found}
 		_, _, err := Check(damage.list)
 		wants(t, err, want)
-		if text := fmt.Sprintf("refusal %d at %d: %s", damage.number, damage.place, damage.found); err.Error() != text {
+		if text := fmt.Sprintf("refusal %d: %s", damage.number, damage.found); err.Error() != text {
 			t.Errorf("%q, want %q", err, text)
 		}
 		_, err = PublicKey(damage.list, 7)
@@ -127,8 +128,8 @@ func TestDamagedLists(t *testing.T) {
 // A place is asked of the answer and not of the number: the list writer's unknown KEM has one, and others have none.
 func TestPlace(t *testing.T) {
 	_, err := WriteList([]Configuration{{7, 0x0030, make([]byte, 32), []Pair{{1, 3}}}})
-	wants(t, err, Refusal{Number: UnknownKEM, HasPlace: true, Place: 3})
-	if err.Error() != "refusal 3 at 3: KEM unknown" {
+	wants(t, err, Refusal{Number: UnknownKEM, HasPlace: true, Place: 3, Found: "KEM at byte 3 is unknown"})
+	if err.Error() != "refusal 3: KEM at byte 3 is unknown" {
 		t.Error(err)
 	}
 	_, _, err = Head(Choice{KeyID: 7, KEM: 0x0030, Pair: Pair{1, 3}}, make([]byte, 32))
@@ -145,13 +146,15 @@ func TestWriteList(t *testing.T) {
 		t.Fatal(list, err)
 	}
 	_, err = WriteList([]Configuration{one, one})
-	wants(t, err, Refusal{Number: DuplicateKeyID, HasPlace: true, Place: 45})
+	wants(t, err, Refusal{Number: DuplicateKeyID, HasPlace: true, Place: 45, Found: "key id at byte 45 is that of an earlier configuration"})
 	_, err = WriteList(nil)
-	wants(t, err, Refusal{Number: ListTruncated, HasPlace: true})
+	wants(t, err, Refusal{Number: ListTruncated, HasPlace: true, Found: "there is no configuration at all"})
 	_, err = WriteList([]Configuration{one, {ID: 8, KEM: 0x0020, PublicKey: one.PublicKey[:31]}})
-	wants(t, err, Refusal{Number: LengthMismatch, HasPlace: true, Place: 43})
+	wants(t, err, Refusal{Number: LengthMismatch, HasPlace: true, Place: 43,
+		Found: "public key of the configuration at byte 43 is not as long as its KEM's keys"})
 	_, err = WriteList([]Configuration{one, {ID: 8, KEM: 0x0020, PublicKey: one.PublicKey}})
-	wants(t, err, Refusal{Number: BadPairLength, HasPlace: true, Place: 80})
+	wants(t, err, Refusal{Number: BadPairLength, HasPlace: true, Place: 80,
+		Found: "pair length at byte 80 would not be 4 to 64: there must be 1 to 16 pairs"})
 
 	// The longest list there is: sixteen of the longest key with sixteen pairs.
 	var most []Configuration
@@ -166,7 +169,8 @@ func TestWriteList(t *testing.T) {
 		t.Fatal(n, skipped, err)
 	}
 	_, err = WriteList(append(most, one))
-	wants(t, err, Refusal{Number: TooManyConfigurations, HasPlace: true, Place: LongestList})
+	wants(t, err, Refusal{Number: TooManyConfigurations, HasPlace: true, Place: LongestList,
+		Found: fmt.Sprintf("a seventeenth configuration at byte %d", LongestList)})
 }
 
 // A configuration with an unknown KEM is skipped, here one of 3 bytes with the key id of the one that is read.
