@@ -53,21 +53,21 @@ fn fault(list: &[u8], at: usize, key: usize, more: usize, taken: &[u8]) -> u8
     if list.len() < next_start(list, at) {
         return Refusal::LIST_TRUNCATED;
     }
-    let length = word_at(list, at) as usize;
-    if length < 3 {
+    let size = word_at(list, at) as usize;
+    if size < 3 {
         return Refusal::LENGTH_MISMATCH;
     }
     if key == 0 {
         return 0;
     }
-    if length < 5 + key {
+    if size < 5 + key {
         return Refusal::LENGTH_MISMATCH;
     }
     let pair_bytes = word_at(list, at + 5 + key) as usize;
     if !pair_bytes_hold(pair_bytes) {
         return Refusal::BAD_PAIR_LENGTH;
     }
-    if length != 5 + key + pair_bytes {
+    if size != 5 + key + pair_bytes {
         return Refusal::LENGTH_MISMATCH;
     }
     if has_byte(taken, byte_at(list, at + 2)) {

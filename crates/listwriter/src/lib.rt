@@ -2,10 +2,12 @@
 // key bytes of all, how many pair numbers each has, and the pair numbers of all, KDF and AEAD by turns.
 ghost use mathlib.Core.Path.{_≡_};
 ghost use Prim.Native.Nat.{_+_, _*_, _≤_, _<_};
+ghost use lib.Dec.{leb};
 ghost use lib.ListN.{length, getD};
+ghost use Rattle.wire.specs.Tests.{_and_};
 ghost use Rattle.wire.specs.Helpers.{overwritten};
 ghost use Rattle.algorithms.specs.Sizes.{publicKeyLength};
-ghost use Rattle.keylist.specs.Layout.{keyStart, refusedFor};
+ghost use Rattle.keylist.specs.Layout.{keyStart, pairBytesHold, refusedFor};
 ghost use Rattle.listwriter.specs.Writer.{fields, faultOfGiven, noneLeft, configurationBytes, encode, writtenIn, writtenTo, wordsBytes};
 ghost use Rattle.listwriter.specs.Helpers.{faultAt, fieldsFrom, lengthWritten, Fitting};
 use keylist::check::MOST_CONFIGURATIONS;
@@ -37,6 +39,20 @@ fn kem_at(kems: &[u16], at: usize) -> u16
     if at < kems.len() { kems[at] } else { 0 }
 }
 
+// So many pair numbers may be in one configuration, and are there.
+fn pairs_hold(count: usize, left: usize) -> bool
+    ensures { λ r. ⌜ r ≡ (pairBytesHold (count * 2) and leb count left) ⌝ }
+{
+    // This bound comes first, so that the product behind it cannot wrap.
+    if MOST_PAIR_BYTES < count {
+        return false;
+    }
+    if !pair_bytes_hold(count * 2) {
+        return false;
+    }
+    count <= left
+}
+
 // The first fault of a configuration that is given behind so many others, 0 where there is none, with what is left of the key bytes and
 // the pair numbers.
 fn fault(
@@ -63,14 +79,7 @@ fn fault(
     if keys_left < key {
         return Refusal::LENGTH_MISMATCH;
     }
-    // This bound comes first, so that the product behind it cannot wrap.
-    if MOST_PAIR_BYTES < pair_count {
-        return Refusal::BAD_PAIR_LENGTH;
-    }
-    if !pair_bytes_hold(pair_count * 2) {
-        return Refusal::BAD_PAIR_LENGTH;
-    }
-    if pairs_left < pair_count {
+    if !pairs_hold(pair_count, pairs_left) {
         return Refusal::BAD_PAIR_LENGTH;
     }
     if is_taken {

@@ -10,7 +10,7 @@ use borrow.Author.Needs.{needs}
 use Rattle.wire.specs.Tests.{_and_}
 use Rattle.wire.specs.Refusals.{_when_otherwise_}
 use Rattle.keylist.specs.Layout.{pairBytesHold}
-use Rattle.keylist.proofs.LayoutLaws.{known-by-length, pairs-above, unknown-by-length}
+use Rattle.keylist.proofs.LayoutLaws.{known-by-length, unknown-by-length}
 use Rattle.listwriter.specs.Writer.{faultOfGiven}
 use Rattle.listwriter.proofs.fault.Statement.{statement}
 use Rattle.listwriter.proofs.fault.Tie as tie
@@ -53,29 +53,19 @@ past-key : (c : tie.Else4)
 past-key c = rw (past-kem (c .before .before), eq-eqb _ _ (c .before .if3 .left), le-leb _ _ (c .if4 .left))
 
 returns-5 : tie.Need-returns-5
-returns-5 c = rw (past-key (c .before), pairs-above (c .before .before .before .before .before .before .args .pair-count * 2) (omega arith))
+returns-5 c = rw (past-key (c .before .before), sym (c .before .pairs-hold .ensures) ∙ not-true _ (c .if5 .taken))
+
+-- and so are its pair numbers
+past-pairs : (c : tie.Else5)
+    → let a = c .before .before .before .before .before .before .before .args in
+    faultOfGiven (a .before) (a .is-taken) (a .kem) (a .key) (a .keys-left) (a .pair-count) (a .pairs-left) ≡ (21 when a .is-taken otherwise 0)
+past-pairs c = rw (past-key (c .before .before), sym (c .before .pairs-hold .ensures) ∙ not-false _ (c .if5 .left))
 
 returns-6 : tie.Need-returns-6
-returns-6 c = rw (past-key (c .before .before .before), sym (c .before .pair-bytes-hold .ensures) ∙ not-true _ (c .if6 .taken))
-
--- and so many pair numbers may be
-past-pairs : (c : tie.Else6)
-    → let a = c .before .before .before .before .before .before .before .before .args in
-    faultOfGiven (a .before) (a .is-taken) (a .kem) (a .key) (a .keys-left) (a .pair-count) (a .pairs-left)
-    ≡ (20 when not (leb (a .pair-count) (a .pairs-left)) otherwise
-    21 when a .is-taken otherwise
-    0)
-past-pairs c = rw (past-key (c .before .before .before), sym (c .before .pair-bytes-hold .ensures) ∙ not-false _ (c .if6 .left))
+returns-6 c = rw (past-pairs (c .before), c .if6 .taken)
 
 returns-7 : tie.Need-returns-7
-returns-7 c = rw (past-pairs (c .before), lt-leb _ _ (c .if7 .taken))
-
-returns-8 : tie.Need-returns-8
-returns-8 c = rw (past-pairs (c .before .before), le-leb _ _ (c .before .if7 .left), c .if8 .taken)
-
-returns-9 : tie.Need-returns-9
-returns-9 c = rw (past-pairs (c .before .before), le-leb _ _ (c .before .if7 .left), c .if8 .left)
+returns-7 c = rw (past-pairs (c .before), c .if6 .left)
 
 pub fault-spec : {M : Type 1} → statement M
-fault-spec = tie.close (tie.spec returns (λ c κs. search needs) returns-2 returns-3 returns-4 returns-5 (λ c. search needs) (λ c κs. search needs)
-    returns-6 returns-7 returns-8 returns-9)
+fault-spec = tie.close (tie.spec returns (λ c κs. search needs) returns-2 returns-3 returns-4 (λ c κs. search needs) returns-5 returns-6 returns-7)
