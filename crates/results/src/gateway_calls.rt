@@ -92,12 +92,10 @@ pub fn setup(list: &[u8], cap: u64) -> SetupDone
         × (r .result ≡ setupResult (setupAnswer (setup (now (list .entry)) cap))) ⌝ }
 {
     let after = Gateway::setup(list, cap);
-    let gateway = after.gateway;
     let answer = after.answer;
-    SetupDone {
-        gateway,
-        result: setup_result(answer),
-    }
+    let result = setup_result(answer);
+    let gateway = after.gateway;
+    SetupDone { gateway, result }
 }
 
 // The id of the key that a request names.
