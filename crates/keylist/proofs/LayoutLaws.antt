@@ -16,7 +16,7 @@ use Rattle.wire.proofs.Numbers.{not-refused}
 use Rattle.algorithms.specs.Sizes.{knownKem, publicKeyLength}
 use Rattle.algorithms.proofs.Stated.{size-bounds}
 use Rattle.keylist.specs.Before.{layoutHolds}
-use Rattle.keylist.specs.Layout.{bytesBeforePairs, faultOf, isSkipped, isWhole, nextStart, keyIdAt, kemAt, lengthAt, pairBytesAt, pairBytesHold, mostPairBytes}
+use Rattle.keylist.specs.Layout.{bytesBeforePairs, faultOf, fieldAtFault, isSkipped, isWhole, nextStart, keyIdAt, kemAt, lengthAt, pairBytesAt, pairBytesHold, mostPairBytes}
 
 -- a KEM with a key length above 0 is known, and one with 0 is not
 pub known-by-length : (kem : ℕ) → 0 < publicKeyLength kem → knownKem kem ≡ true
@@ -205,3 +205,9 @@ no-fault more taken bytes at e k =
     (λ i. absurd (true-or-false (skips-by-kem bytes at whole (omega (arith, room)) ∙ eq-eqb _ _ (size-bounds .noKeyUnknown (kemAt bytes at) i)) k)) in
     let sizes = eqb-true (lengthAt bytes at) (size + pairs) (not-false (eqb (lengthAt bytes at) (size + pairs)) (d .0)) in
     (record { whole = whole; kem = known; sizes = sizes; pairs = pair-bytes pairs (not-false (pairBytesHold pairs) (c .0)) }, f .0)
+
+-- the field at fault lies as far behind a configuration's start, wherever that is
+pub field-from-start : (at end number : ℕ) → at + fieldAtFault 0 end number ≡ fieldAtFault at (at + end) number
+field-from-start at end number =
+    either (eqb number 3) (λ a. rw a)
+    (λ a. either (eqb number 20) (λ b. rw (a, b)) (λ b. either (eqb number 21) (λ c. rw (a, b, c)) (λ c. rw (a, b, c) (omega arith))))

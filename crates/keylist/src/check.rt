@@ -1,6 +1,6 @@
 // Reads a key list: whether it is good as a whole, and the fields of one configuration.
 ghost use mathlib.Core.Path.{_≡_};
-ghost use Prim.Native.Nat.{_+_, _^_, _<_, _≤_};
+ghost use Prim.Native.Nat.{_+_, _<_, _≤_};
 ghost use lib.ListN.{length};
 ghost use Rattle.algorithms.specs.Sizes.{publicKeyLength};
 ghost use Rattle.keylist.specs.Layout.{faultOf, fieldAtFault, isSkipped, kemAt, nextStart, pairBytesHold};
@@ -76,21 +76,21 @@ fn fault(list: &[u8], at: usize, key: usize, more: usize, taken: &[u8]) -> u8
     0
 }
 
-// The first byte of the field at fault of a configuration whose length stands at an offset and whose public key ends at another.
-pub fn field_at_fault(at: usize, end: usize, number: u8) -> usize
-    requires { ⌜ at + 3 < 2 ^ 64 ⌝ }
-    ensures { λ r. ⌜ r ≡ fieldAtFault at end number ⌝ }
+// The first byte of the field at fault, counted from the configuration's start, where its public key ends there.
+pub fn field_at_fault(end: usize, number: u8) -> usize
+    ensures { λ r. ⌜ r ≡ fieldAtFault 0 end number ⌝ }
+    ensures bound { λ r. ⌜ r ≤ 3 + end ⌝ }
 {
     if number == Refusal::UNKNOWN_KEM {
-        return at + 3;
+        return 3;
     }
     if number == Refusal::BAD_PAIR_LENGTH {
         return end;
     }
     if number == Refusal::DUPLICATE_KEY_ID {
-        return at + 2;
+        return 2;
     }
-    at
+    0
 }
 
 // The configuration at an offset is skipped: it lies whole in the list, has room for its KEM, and that is unknown.
@@ -141,7 +141,7 @@ pub fn check(list: &[u8]) -> Checked
         let more = MOST_CONFIGURATIONS - (read + skipped);
         let number = fault(list, at, key, more, &taken[..read]);
         if number != 0 {
-            return Checked::Refused(Refusal::at(number, field_at_fault(at, at + 5 + key, number)));
+            return Checked::Refused(Refusal::at(number, at + field_at_fault(5 + key, number)));
         }
         if key == 0 {
             skipped += 1;

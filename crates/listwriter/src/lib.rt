@@ -94,8 +94,8 @@ fn refused(at: usize, kem: u16, number: u8) -> Written
     requires { ⌜ at ≤ 4096 ⌝ }
     ensures { λ r. ⌜ r ≡ Written.Refused (refusedFor at (keyStart at + publicKeyLength kem) number) ⌝ }
 {
-    let end = at + 5 + key_length(kem);
-    Written::Refused(Refusal::at(number, field_at_fault(at, end, number)))
+    let end = 5 + key_length(kem);
+    Written::Refused(Refusal::at(number, at + field_at_fault(end, number)))
 }
 
 // Numbers, two bytes each, from an offset of a buffer that has room for them.

@@ -7,12 +7,13 @@ use mathlib.Core.List.{[], _∷_, _++_}
 use lib.ListN.{length-take, length-set, length, take, set}
 use lib.Seq.{take-suc-set}
 use Rattle.keylist.proofs.Parsing.{parse-end, parse-fault, parse-skip, parse-more, parse-some, parse-none, counted, counted-none, counted-read, counted-skip, holding, skipsFrom, skips-end, skips-one, skips-none, skipped-by-key, good-by-key, some-more}
-use Rattle.keylist.proofs.LayoutLaws.{skipped, held-not-skipped}
+use Rattle.keylist.proofs.LayoutLaws.{field-from-start, skipped, held-not-skipped}
 use Rattle.algorithms.specs.Sizes.{publicKeyLength}
+use Rattle.wire.specs.Refusals.{refusedAt}
 use Rattle.keylist.specs.declared.Checked.{Checked}
 use Rattle.keylist.specs.Answers.{checked}
 use Rattle.keylist.specs.Layout.{faultOf, keyEnd, keyIdAt, kemAt, parseFrom, refusedFor}
-use mathlib.Core.Path.{_≡_, refl, sym, _∙_, ap}
+use mathlib.Core.Path.{_≡_, refl, sym, _∙_, ap, ap₂}
 use Prim.Native.Nat.{ℕ, suc, _+_, _-_, _≤_}
 use native.Mathlib.Omega.{arith}
 use borrow.Author.Needs.{needs}
@@ -57,8 +58,10 @@ returns-2 c =
     let fault = rw (found .fault .ensures) at (c .before .before .if2 .taken) in
     let answer : checked list ≡ Checked.Refused (refusedFor (l .at) (keyEnd list (l .at)) (faultOf more taken list (l .at))) =
     rw (l .inv .3, parse-fault more taken list (l .at) (omega arith) fault) in
+    let end : l .at + (5 + found .before .before .key-length .result) ≡ keyEnd list (l .at) = omega (arith, key) in
+    let place = ap (λ (d : ℕ). l .at + d) (c .before .field-at-fault .ensures .0) ∙ field-from-start (l .at) (5 + found .before .before .key-length .result) (found .fault .result) in
     let given : c .at2 .result ≡ refusedFor (l .at) (keyEnd list (l .at)) (faultOf more taken list (l .at)) =
-    cc (c .at2 .ensures, c .before .field-at-fault .ensures, found .fault .ensures, key) in
+    c .at2 .ensures ∙ ap (refusedAt (found .fault .result)) place ∙ ap₂ (λ (e n : ℕ). refusedFor (l .at) e n) end (found .fault .ensures) in
     ap Checked.Refused given ∙ sym answer
 
 -- no fault, where one more may come
@@ -129,7 +132,7 @@ returns-3 c =
 pub check-spec : {M : Type 1} → statement M
 check-spec = tie.close (tie.spec Inv-loop μ-loop (λ c κs. search needs) returns loop-holds (λ c. search needs) (λ c κs. search needs) (λ c κs. search needs)
     (λ c. search needs) (λ c. search needs) (λ c. search needs) (λ c. simp length-take (omega arith)) fault-requires (λ c. search needs)
-    (λ c. search needs) (λ c κs. search needs) (λ c κs. search needs) returns-2 (λ c. search needs) (λ c κs. search needs) (λ c. search needs)
+    (λ c κs. search needs) (λ c. search needs) (λ c κs. search needs) returns-2 (λ c. search needs) (λ c κs. search needs) (λ c. search needs)
     loop-again (λ c. search needs) (λ c κs. search needs) (λ c. omega (arith, no-fault-here (c .before .before) .1)) (λ c. search needs)
     (λ c κs. search needs) (λ c. search needs)
     loop-again-2 returns-3)
