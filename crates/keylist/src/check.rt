@@ -42,7 +42,8 @@ fn next_start(list: &[u8], at: usize) -> usize
 }
 
 // The first fault of the configuration at an offset of the list, 0 where it has none or is skipped. `key` is its KEM's key length, 0 where
-// that is unknown; `more` is how many may still come, this one counted.
+// that is unknown; `more` is how many may still come, this one counted. It asks for an offset in the list and for that key length, so that no sum
+// wraps and the table is not asked again.
 fn fault(list: &[u8], at: usize, key: usize, more: usize, taken: &[u8]) -> u8
     requires { ⌜ (at < length (now list)) × (key ≡ publicKeyLength (kemAt (now list) at)) × (key ≤ 133) ⌝ }
     ensures { λ r. ⌜ r ≡ faultOf more (now (taken .entry)) (now (list .entry)) at ⌝ }

@@ -1,4 +1,5 @@
--- What every answer to a host begins with: refusal number (0: accepted), whether it has a place, its place, HTTP status (0: nothing is sent), problem type.
+-- What every answer to a host begins with: refusal number (0: accepted), whether it has a place, its place, HTTP status (0: nothing is sent),
+-- problem type.
 use Prim.Native.Nat.{ℕ}
 use mathlib.Core.Bool.{false}
 use Rattle.wire.specs.declared.refusal.Refusal.{Refusal}

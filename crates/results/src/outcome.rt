@@ -3,8 +3,8 @@ ghost use mathlib.Core.Path.{_≡_};
 ghost use Rattle.results.specs.Outcome.{sends, refusedBy, sent, withNumber, refusedNumber, withTwoNumbers, refusedTwoNumbers};
 use wire::refusal::Refusal;
 
-// The refusal number, 0 where the call is accepted; whether the refusal has a place, and its place; the HTTP status to send, 0 where nothing is sent; the
-// problem type of an unprotected answer.
+// The refusal number, 0 where the call is accepted; whether the refusal has a place, and its place; the HTTP status to send, 0 where
+// nothing is sent; the problem type of an unprotected answer.
 #[repr(C)]
 pub struct Outcome {
     pub number: u8,
