@@ -1,21 +1,21 @@
 -- The statements of specs/Stated, proved.
 -- Assumes nothing.
-use mathlib.Core.Path.{_≡_, refl}
+use mathlib.Core.Path.{_≡_, refl, sym, ap, _∙_}
 use mathlib.Core.Bool.{Bool, true, false}
-use mathlib.Core.List.{List, [], _∷_}
+use mathlib.Core.List.{List, [], _∷_, _++_}
 use lib.ListN.{getD, length, List·getD-eq-default}
 use Prim.Native.Nat.{ℕ, _≤_, _<_}
 use native.Mathlib.Omega.{arith}
 use lib.Dec.{eqb, leb, ltb}
-use borrow.Author.Tests.{leb-true, eqb-true, ltb-true, ltb-false, not-false}
+use borrow.Author.Tests.{eq-eqb, leb-true, eqb-true, ltb-true, ltb-false, not-false}
 use Rattle.wire.specs.Tests.{pick}
 use Rattle.wire.specs.Search.{firstPlace, anyPasses, among}
 use Rattle.wire.proofs.Booleans.{either, and-left, and-right, true-or-false}
-use Rattle.wire.proofs.Matches.{first-passes}
+use Rattle.wire.proofs.Matches.{first-passes, any-by-place}
 use Rattle.algorithms.specs.declared.Row.{Row}
-use Rattle.algorithms.specs.Table.{table, rowOf, isRow, noRow, kemKind, kdfKind, aeadKind}
+use Rattle.algorithms.specs.Table.{table, rowIn, rowOf, isRow, noRow, kemKind, kdfKind, aeadKind}
 use Rattle.algorithms.specs.Sizes.{isKnown, knownKem, knownKdf, knownAead, encLength, publicKeyLength, keyLength}
-use Rattle.algorithms.specs.Stated.{SizesOfThePaper, KnownNumbers, SizeBounds}
+use Rattle.algorithms.specs.Stated.{SizesOfThePaper, KnownNumbers, ReadFromTheTable, SizeBounds, sizeBound}
 use Rattle.algorithms.proofs.Rows.{of-row, every}
 
 pub sizes-of-the-paper : SizesOfThePaper
@@ -59,6 +59,47 @@ known-numbers =
       exportOnly = refl;
     }
 
+-- a lookup looks at the first row, and then at the others
+in-first : (kind number : ℕ) (row : Row) (rows : List Row) → rowIn (row ∷ rows) kind number ≡ pick (isRow kind number row) row (rowIn rows kind number)
+unfolding firstPlace
+in-first kind number row rows = either (isRow kind number row) (λ is. rw is) (λ is. rw is)
+
+-- a row that is another is passed over
+passed : (kind number : ℕ) (row : Row) (rows : List Row) → isRow kind number row ≡ false → rowIn (row ∷ rows) kind number ≡ rowIn rows kind number
+passed kind number row rows is = in-first kind number row rows ∙ rw is
+
+none-first : (is : Bool) {rest : Bool} → pick is true rest ≡ false → (is ≡ false) × (rest ≡ false)
+none-first true h = absurd (true-or-false refl h)
+none-first false h = (refl, h)
+
+found-first : (before behind : List Row) (row : Row) → anyPasses (isRow (row .kind) (row .number)) before ≡ false
+    → rowIn (before ++ row ∷ behind) (row .kind) (row .number) ≡ row
+unfolding anyPasses
+found-first [] behind row h = in-first (row .kind) (row .number) row behind ∙ rw (eq-eqb (row .kind) (row .kind) refl, eq-eqb (row .number) (row .number) refl)
+found-first (x ∷ before) behind row h =
+    let is = none-first (isRow (row .kind) (row .number) x) h in
+    passed (row .kind) (row .number) x (before ++ row ∷ behind) (is .0) ∙ found-first before behind row (is .1)
+
+others-stay : (before behind : List Row) (row changed : Row) (kind number : ℕ) → isRow kind number row ≡ false → isRow kind number changed ≡ false
+    → rowIn (before ++ changed ∷ behind) kind number ≡ rowIn (before ++ row ∷ behind) kind number
+others-stay [] behind row changed kind number a b = passed kind number changed behind b ∙ sym (passed kind number row behind a)
+others-stay (x ∷ before) behind row changed kind number a b =
+    in-first kind number x (before ++ changed ∷ behind)
+    ∙ ap (pick (isRow kind number x) x) (others-stay before behind row changed kind number a b)
+    ∙ sym (in-first kind number x (before ++ row ∷ behind))
+
+not-found : (rows : List Row) (kind number : ℕ) → anyPasses (isRow kind number) rows ≡ false → rowIn rows kind number ≡ noRow
+not-found rows kind number h =
+    List·getD-eq-default rows noRow (leb-true (length rows) (firstPlace (isRow kind number) rows) (sym (any-by-place noRow (isRow kind number) rows) ∙ rw h))
+
+pub read-from-the-table : ReadFromTheTable
+read-from-the-table =
+    record {
+      found = λ before behind row none. found-first before behind row none;
+      others = λ before behind row changed kind number a b. others-stay before behind row changed kind number a b;
+      unknown = λ rows kind number none. not-found rows kind number none;
+    }
+
 -- each test below passes at every row, computed over the table
 no-key-unknown : (n : ℕ) → knownKem n ≡ false → publicKeyLength n ≡ 0
 unfolding knownKem publicKeyLength table
@@ -80,12 +121,11 @@ key-is-there n h =
     (λ none. absurd (true-or-false h (rw (List·getD-eq-default table noRow (ltb-false place (length table) none)))))
 
 pub size-bounds : SizeBounds
-unfolding knownKem publicKeyLength encLength keyLength table
+unfolding knownKem publicKeyLength keyLength table
 size-bounds =
     record {
       keyIsThere = key-is-there;
       noKeyUnknown = no-key-unknown;
-      keyBound = λ n. leb-true _ _ (of-row (λ row. leb (row .«public_key») 133) refl refl kemKind n);
-      encIsKey = λ n. eqb-true _ _ (of-row (λ row. eqb (row .enc) (row .«public_key»)) refl refl kemKind n);
-      nonceBound = λ n. let h : rowOf aeadKind n .key ≤ 32 = leb-true _ _ (of-row (λ row. leb (row .key) 32) refl refl aeadKind n) in omega arith;
+      keyBound = λ n. let h : rowOf kemKind n .«public_key» ≤ sizeBound = leb-true _ _ (of-row (λ row. leb (row .«public_key») sizeBound) refl refl kemKind n) in omega arith;
+      nonceBound = λ n. let h : rowOf aeadKind n .key ≤ sizeBound = leb-true _ _ (of-row (λ row. leb (row .key) sizeBound) refl refl aeadKind n) in omega arith;
     }

@@ -1,10 +1,12 @@
--- What 01's table says, as one computed statement about the definitions; which numbers are known, over every number; and the
--- facts about sizes that other crates use, over every number.
+-- What 01's table says, as one computed statement about the definitions; which numbers are known, over every number; that a lookup
+-- reads the table alone, over every table; and the facts about sizes that other crates use, over every number.
 use Prim.Native.Nat.{ℕ, _≤_, _<_}
 use mathlib.Core.Path.{_≡_}
 use mathlib.Core.Bool.{true, false}
-use mathlib.Core.List.{List, [], _∷_, map}
-use Rattle.wire.specs.Search.{among}
+use mathlib.Core.List.{List, [], _∷_, _++_, map}
+use Rattle.wire.specs.Search.{among, anyPasses}
+use Rattle.algorithms.specs.declared.Row.{Row}
+use Rattle.algorithms.specs.Table.{isRow, rowIn, noRow}
 use Rattle.algorithms.specs.Sizes.{knownKem, knownKdf, knownAead, encLength, publicKeyLength, keyLength, shortestRequest, responseNonceLength}
 
 -- 01's KEMs, KDFs and AEADs, in its order
@@ -32,10 +34,22 @@ pub record KnownNumbers : Type 0 where
   pub aead : (number : ℕ) → knownAead number ≡ among aeads number
   pub exportOnly : knownAead 0xFFFF ≡ false
 
--- a key length is above 0 exactly where the KEM is known, and every size has a bound
+-- 02, A4, whatever rows a table has: a lookup gives the first row of its kind and number as it stands there; what stands in a row of
+-- another kind or number changes nothing; and where there is no such row, it gives none. Each size is read from that row (`Sizes`).
+pub record ReadFromTheTable : Type 0 where
+  pub found : (before behind : List Row) (row : Row) → anyPasses (isRow (row .kind) (row .number)) before ≡ false
+      → rowIn (before ++ row ∷ behind) (row .kind) (row .number) ≡ row
+  pub others : (before behind : List Row) (row changed : Row) (kind number : ℕ) → isRow kind number row ≡ false → isRow kind number changed ≡ false
+      → rowIn (before ++ changed ∷ behind) kind number ≡ rowIn (before ++ row ∷ behind) kind number
+  pub unknown : (rows : List Row) (kind number : ℕ) → anyPasses (isRow kind number) rows ≡ false → rowIn rows kind number ≡ noRow
+
+-- a bound for sums: no size is above it, and a row may change far below it
+abbrev pub sizeBound : ℕ
+sizeBound = 4096
+
+-- a key length is above 0 exactly where the KEM is known, and what sums are made of has a bound
 pub record SizeBounds : Type 0 where
   pub keyIsThere : (kem : ℕ) → knownKem kem ≡ true → 0 < publicKeyLength kem
   pub noKeyUnknown : (kem : ℕ) → knownKem kem ≡ false → publicKeyLength kem ≡ 0
-  pub keyBound : (kem : ℕ) → publicKeyLength kem ≤ 133
-  pub encIsKey : (kem : ℕ) → encLength kem ≡ publicKeyLength kem
-  pub nonceBound : (aead : ℕ) → responseNonceLength aead ≤ 32
+  pub keyBound : (kem : ℕ) → publicKeyLength kem ≤ sizeBound
+  pub nonceBound : (aead : ℕ) → responseNonceLength aead ≤ sizeBound

@@ -45,5 +45,9 @@ noRow = tableRow 0 0 0 0 0
 abbrev pub isRow : ℕ → ℕ → Row → Bool
 isRow kind number row = eqb (row .kind) kind and eqb (row .number) number
 
+-- the first row of the kind and the number, in any table
+abbrev pub rowIn : List Row → ℕ → ℕ → Row
+rowIn rows kind number = getD rows (firstPlace (isRow kind number) rows) noRow
+
 unfoldable pub rowOf : ℕ → ℕ → Row
-rowOf kind number = getD table (firstPlace (isRow kind number) table) noRow
+rowOf = rowIn table

@@ -10,6 +10,7 @@ use Rattle.wire.specs.Refusals.{refused}
 use Rattle.wire.proofs.Booleans.{either}
 use Rattle.wire.proofs.Numbers.{not-refused}
 use Rattle.keylist.proofs.LayoutLaws.{both}
+use Rattle.algorithms.specs.Stated.{sizeBound}
 use Rattle.algorithms.specs.Sizes.{knownKem, knownAead, encLength, responseNonceLength}
 use Rattle.algorithms.proofs.Stated.{size-bounds}
 use Rattle.exchange.specs.declared.Exchange.{Exchange}
@@ -20,13 +21,12 @@ use Rattle.wire.specs.Texts.{longestPlain}
 use Rattle.exchange.specs.Steps.{isAllowed, lengthsHold, refusalBy, answerBy}
 use Rattle.exchange.specs.Moved.{ofTicket}
 
--- the lengths that hold, as numbers, and their bounds
+-- the lengths that hold, as numbers, and the nonce's bound
 pub record Lengths (enc nonce plain : ℕ) (e : Exchange) : Type 0 where
   pub isEnc : enc ≡ encLength (e .kem)
   pub isNonce : nonce ≡ responseNonceLength (e .aead)
   pub isShort : plain ≤ longestPlain
-  pub encBound : enc ≤ 133
-  pub nonceBound : nonce ≤ 32
+  pub nonceBound : nonce ≤ sizeBound
 
 pub lengths : (enc nonce plain : ℕ) (e : Exchange) → responseHolds enc nonce plain e ≡ true → Lengths enc nonce plain e
 lengths enc nonce plain e h =
@@ -37,7 +37,6 @@ lengths enc nonce plain e h =
       isEnc = isEnc;
       isNonce = isNonce;
       isShort = isShort;
-      encBound = omega (arith, size-bounds .encIsKey (e .kem), size-bounds .keyBound (e .kem));
       nonceBound = omega (arith, size-bounds .nonceBound (e .aead));
     }
 

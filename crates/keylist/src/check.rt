@@ -3,6 +3,7 @@ ghost use mathlib.Core.Path.{_≡_};
 ghost use Prim.Native.Nat.{_+_, _<_, _≤_};
 ghost use lib.ListN.{length};
 ghost use Rattle.algorithms.specs.Sizes.{publicKeyLength};
+ghost use Rattle.algorithms.specs.Stated.{sizeBound};
 ghost use Rattle.keylist.specs.Layout.{faultOf, fieldAtFault, isSkipped, kemAt, nextStart, pairBytesHold};
 ghost use Rattle.keylist.specs.Answers.{checked};
 ghost use Rattle.keylist.specs.Helpers.{firstRead, placeAt};
@@ -45,7 +46,7 @@ fn next_start(list: &[u8], at: usize) -> usize
 // that is unknown; `more` is how many may still come, this one counted. It asks for an offset in the list and for that key length, so that no sum
 // wraps and the table is not asked again.
 fn fault(list: &[u8], at: usize, key: usize, more: usize, taken: &[u8]) -> u8
-    requires { ⌜ (at < length (now list)) × (key ≡ publicKeyLength (kemAt (now list) at)) × (key ≤ 133) ⌝ }
+    requires { ⌜ (at < length (now list)) × (key ≡ publicKeyLength (kemAt (now list) at)) × (key ≤ sizeBound) ⌝ }
     ensures { λ r. ⌜ r ≡ faultOf more (now (taken .entry)) (now (list .entry)) at ⌝ }
 {
     if more == 0 {
@@ -182,7 +183,7 @@ pub fn place_at(list: &[u8], at: usize) -> Place
 // Npk, 0 where the KEM is unknown.
 pub fn key_length(kem: u16) -> usize
     ensures { λ r. ⌜ r ≡ publicKeyLength kem ⌝ }
-    ensures bound { λ r. ⌜ r ≤ 133 ⌝ }
+    ensures bound { λ r. ⌜ r ≤ sizeBound ⌝ }
 {
     match Kem(kem).public_key_length() {
         Size::Bytes(key) => key,

@@ -18,6 +18,7 @@ use Rattle.wire.specs.Helpers.{overwritten}
 use Rattle.wire.specs.Refusals.{refusedAt}
 use Rattle.wire.proofs.Booleans.{either}
 use Rattle.wire.proofs.Writes.{front-more}
+use Rattle.algorithms.specs.Stated.{sizeBound}
 use Rattle.algorithms.proofs.Stated.{size-bounds}
 use Rattle.listwriter.specs.declared.Written.{Written}
 use Rattle.algorithms.specs.Sizes.{publicKeyLength}
@@ -70,7 +71,7 @@ module _ (f : Fields) (i k p : ℕ) where
       (rw pair-count-from (drop-drop (getD (f .pairCounts) i 0) p (f .pairs)))
 
 -- the bounds of a configuration that keeps the rules
-pub first-bounds : (f : Fields) → First f → (firstKeyLength f ≤ 133) × ((firstPairCount f ≤ 32) × ((firstKeyLength f ≤ length (f .keys)) × (firstPairCount f ≤ length (f .pairs))))
+pub first-bounds : (f : Fields) → First f → (firstKeyLength f ≤ sizeBound) × ((firstPairCount f ≤ 32) × ((firstKeyLength f ≤ length (f .keys)) × (firstPairCount f ≤ length (f .pairs))))
 first-bounds f h =
     let (_, (size, (key, ((_, (_, (_, most))), pairs)))) = h in
     let keys : firstKeyLength f ≤ length (f .keys) = omega (arith, rw length-take at key) in
@@ -124,8 +125,8 @@ length-from-more n front (bad r) = refl
 pub record Within (ids : List ℕ) (f : Fields) (i at k p : ℕ) : Type 0 where
   pub index : i ≤ length ids
   pub limit : i ≤ mostConfigurations
-  pub place : at ≤ i * 204
-  pub keyPlace : k ≤ i * 133
+  pub place : at ≤ i * (71 + sizeBound)
+  pub keyPlace : k ≤ i * sizeBound
   pub pairPlace : p ≤ i * 32
   pub keys : k ≤ length (f .keys)
   pub pairs : p ≤ length (f .pairs)
@@ -135,7 +136,7 @@ within-start ids f = search needs
 
 module _ (ids : List ℕ) (f : Fields) (i at k p : ℕ) (w : Within ids f i at k p) (holding : First (fieldsFrom f i k p)) where
   -- the bounds of the configuration at the index
-  pub bounds-from : (getD (f .keyLengths) i 0 ≤ 133) × ((getD (f .pairCounts) i 0 ≤ 32)
+  pub bounds-from : (getD (f .keyLengths) i 0 ≤ sizeBound) × ((getD (f .pairCounts) i 0 ≤ 32)
       × ((k + getD (f .keyLengths) i 0 ≤ length (f .keys)) × (p + getD (f .pairCounts) i 0 ≤ length (f .pairs))))
   bounds-from =
       let (key, (pair, (keys, pairs))) = first-bounds (fieldsFrom f i k p) holding in

@@ -12,12 +12,11 @@ use lib.Seq.{take-at, drop-at, drop-drop, getD-drop}
 use borrow.Author.Tests.{le-leb, eq-eqb, eqb-true}
 use Rattle.wire.specs.Tests.{_and_}
 use Rattle.wire.specs.Bytes.{byteAt, wordAt, wordBytes}
-use Rattle.wire.specs.Search.{firstPlace, among}
+use Rattle.wire.specs.Search.{anyPasses, among}
 use Rattle.listwriter.proofs.Words.{words-length}
 use Rattle.wire.proofs.Booleans.{true-or-false}
-use Rattle.algorithms.specs.Table.{table, rowOf}
 use Rattle.algorithms.specs.Sizes.{knownKem, publicKeyLength}
-use Rattle.algorithms.proofs.Stated.{size-bounds}
+use Rattle.algorithms.proofs.Stated.{known-numbers, size-bounds}
 use Rattle.keylist.specs.Before.{layoutHolds}
 use Rattle.keylist.specs.Layout.{Configuration, good, bad, lengthAt, keyIdAt, kemAt, keyStart, keyEnd, pairBytesAt, pairsAt, pairsStart, configurationAt, parseFrom, parse, mostConfigurations, unlessFault, Result}
 use Rattle.keylist.proofs.LayoutLaws.{both, held-not-skipped, holds}
@@ -63,8 +62,8 @@ first-and-rest [] h = absurd (h refl)
 first-and-rest (n ∷ numbers) h = refl
 
 unknown-zero : knownKem 0 ≡ false
-unfolding knownKem rowOf table firstPlace
-unknown-zero = refl
+unfolding anyPasses
+unknown-zero = known-numbers .kem 0
 
 -- reading from an offset gives key ids and fields back
 abbrev ReadBack : ℕ → List ℕ → List ℕ → ℕ → List ℕ → Fields → Type 0

@@ -11,6 +11,7 @@ use Rattle.wire.specs.Bytes.{withFront}
 use Rattle.wire.specs.Helpers.{overwritten}
 use Rattle.wire.proofs.Writes.{front-length}
 use Rattle.keylist.specs.Layout.{good, bad, mostConfigurations, Result}
+use Rattle.algorithms.specs.Stated.{sizeBound}
 use Rattle.listwriter.specs.Writer.{Fields, configurationBytes, encode, writtenIn, writtenTo}
 use Rattle.listwriter.specs.Helpers.{fieldsFrom, lengthWritten, Fitting}
 use Rattle.listwriter.specs.declared.Written.{Written}
@@ -80,7 +81,7 @@ module _ {ids : List ℕ} {f : Fields} {start buffer : List ℕ} {i at k p : ℕ
     writing-limit = more .limit
 
     -- the numbers of the configuration at the index
-    pub writing-bounds : (getD (f .keyLengths) i 0 ≤ 133) × ((getD (f .pairCounts) i 0 ≤ 32)
+    pub writing-bounds : (getD (f .keyLengths) i 0 ≤ sizeBound) × ((getD (f .pairCounts) i 0 ≤ 32)
         × ((k + getD (f .keyLengths) i 0 ≤ length (f .keys)) × (p + getD (f .pairCounts) i 0 ≤ length (f .pairs))))
     writing-bounds = bounds-from ids f i at k p (w .within) holding
 

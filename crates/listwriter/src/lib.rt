@@ -1,12 +1,13 @@
 // List writer (01, "List writer"; 02, A2): key lists from configurations that are given as slices: key ids, KEMs, public key lengths, the
 // key bytes of all, how many pair numbers each has, and the pair numbers of all, KDF and AEAD by turns.
 ghost use mathlib.Core.Path.{_≡_};
-ghost use Prim.Native.Nat.{_+_, _*_, _≤_, _<_};
+ghost use Prim.Native.Nat.{_+_, _*_, _^_, _≤_, _<_};
 ghost use lib.Dec.{leb};
 ghost use lib.ListN.{length, getD};
 ghost use Rattle.wire.specs.Tests.{_and_};
 ghost use Rattle.wire.specs.Helpers.{overwritten};
 ghost use Rattle.algorithms.specs.Sizes.{publicKeyLength};
+ghost use Rattle.algorithms.specs.Stated.{sizeBound};
 ghost use Rattle.keylist.specs.Layout.{keyStart, pairBytesHold, refusedFor};
 ghost use Rattle.listwriter.specs.Writer.{fields, faultOfGiven, noneLeft, configurationBytes, encode, writtenIn, writtenTo, wordsBytes};
 ghost use Rattle.listwriter.specs.Helpers.{faultAt, fieldsFrom, lengthWritten, Fitting};
@@ -91,7 +92,7 @@ fn fault(
 
 // The refusal of a configuration that would start at an offset, for a fault. It asks for an offset as the walk has them, so that no sum wraps.
 fn refused(at: usize, kem: u16, number: u8) -> Written
-    requires { ⌜ at ≤ 4096 ⌝ }
+    requires { ⌜ at ≤ 2 ^ 17 ⌝ }
     ensures { λ r. ⌜ r ≡ Written.Refused (refusedFor at (keyStart at + publicKeyLength kem) number) ⌝ }
 {
     let end = 5 + key_length(kem);
@@ -117,7 +118,7 @@ fn write_words(buffer: &mut [u8], at: usize, words: &[u16])
 
 // One configuration from an offset of a buffer that has room for it.
 fn write_configuration(buffer: &mut [u8], at: usize, id: u8, kem: u16, key: &[u8], pairs: &[u16])
-    requires { ⌜ (length (now key) ≤ 133) × (length (now pairs) ≤ 32)
+    requires { ⌜ (length (now key) ≤ sizeBound) × (length (now pairs) ≤ 32)
         × (at + 7 + length (now key) + length (now pairs) * 2 ≤ length (now buffer)) ⌝ }
     ensures { λ r. ⌜ now (buffer .exit) ≡ overwritten (now (buffer .entry)) at
         (configurationBytes id kem (length (now (key .entry))) (now (key .entry)) (length (now (pairs .entry))) (now (pairs .entry))) ⌝ }
@@ -165,8 +166,8 @@ impl Cursor {
     // The cursor behind a configuration with so many key bytes and pair numbers. It asks for the bounds that a configuration
     // which keeps the layout's rules has, so that no sum wraps.
     fn next(self, key: usize, pair_count: usize) -> Self
-        requires { ⌜ (self .index < 16) × (self .at ≤ 4096) × (self .«key_at» ≤ 4096) × (self .«pair_at» ≤ 4096)
-            × (key ≤ 133) × («pair_count» ≤ 32) ⌝ }
+        requires { ⌜ (self .index < 16) × (self .at ≤ 2 ^ 17) × (self .«key_at» ≤ 2 ^ 17) × (self .«pair_at» ≤ 2 ^ 17)
+            × (key ≤ sizeBound) × («pair_count» ≤ 32) ⌝ }
         ensures { λ r. ⌜ (r .index ≡ self .index + 1) × (r .at ≡ self .at + 2 + (5 + key + «pair_count» * 2))
             × (r .«key_at» ≡ self .«key_at» + key) × (r .«pair_at» ≡ self .«pair_at» + «pair_count») ⌝ }
     {

@@ -3,10 +3,11 @@
 -- Assumes nothing.
 use Rattle.wire.specs.Helpers.{overwritten}
 use lib.ListN.{length-take, length-drop, length, getD}
+use Rattle.algorithms.specs.Stated.{sizeBound}
 use Rattle.listwriter.proofs.Writing.{Writing, writing-start, writing-more, writing-end, writing-bounds, writing-room, writing-limit, buffer-length, as-written}
 use Rattle.listwriter.specs.Writer.{fields}
 use mathlib.Core.Path.{ap}
-use Prim.Native.Nat.{ℕ, _+_, _*_, _-_, _≤_, _<_}
+use Prim.Native.Nat.{ℕ, _+_, _*_, _-_, _^_, _≤_, _<_}
 use native.Mathlib.Omega.{arith}
 use borrow.Author.Needs.{needs}
 use Rattle.listwriter.proofs.write_all.Statement.{statement}
@@ -22,11 +23,11 @@ abbrev μ-loop : tie.MeasureT-loop
 -- the numbers of the configuration at the cursor, as the code has read them
 record Numbers (key pairCount at index keyAt pairAt keys pairs room : ℕ) : Type 0 where
   few : index < 16
-  keyBound : key ≤ 133
+  keyBound : key ≤ sizeBound
   pairBound : pairCount ≤ 32
-  atBound : at ≤ 4096
-  keyAtBound : keyAt ≤ 4096
-  pairAtBound : pairAt ≤ 4096
+  atBound : at ≤ 2 ^ 17
+  keyAtBound : keyAt ≤ 2 ^ 17
+  pairAtBound : pairAt ≤ 2 ^ 17
   keysThere : keyAt + key ≤ keys
   pairsThere : pairAt + pairCount ≤ pairs
   roomThere : at + 7 + key + pairCount * 2 ≤ room

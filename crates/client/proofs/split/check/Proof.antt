@@ -7,6 +7,7 @@ use native.Mathlib.Omega.{arith}
 use borrow.Author.Tests.{lt-ltb, le-ltb}
 use borrow.Author.Needs.{needs}
 use Rattle.algorithms.specs.Sizes.{knownAead, responseNonceLength}
+use Rattle.algorithms.specs.Stated.{sizeBound}
 use Rattle.algorithms.proofs.Stated.{size-bounds}
 use Rattle.algorithms.proofs.Answers.{known, unknown}
 use Rattle.client.specs.Split.{splitRefusal}
@@ -16,7 +17,7 @@ use Rattle.client.proofs.split.check.Tie as tie
 -- the lookup's answer: the AEAD is known, and how long its nonce is
 nonce-known : (c : tie.After-nonce)
     → let aead = c .before .before .before .before .args .aead .0 in
-    (knownAead aead ≡ true) × (responseNonceLength aead ≡ c .nonce .given .0 .0) × (c .nonce .given .0 .0 ≤ 32)
+    (knownAead aead ≡ true) × (responseNonceLength aead ≡ c .nonce .given .0 .0) × (c .nonce .given .0 .0 ≤ sizeBound)
 nonce-known c =
     let aead = c .before .before .before .before .args .aead .0 in
     let e = known (knownAead aead) (responseNonceLength aead) _ (sym (c .before .before .response-nonce-length .ensures) ∙ c .nonce .given .1) in
