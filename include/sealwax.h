@@ -33,7 +33,8 @@ extern "C" {
 #endif
 
 /* Sizes in bytes of what the library writes: info; the longest salt, enc and nonce; the longest head, 7 bytes and enc; the exporter
-   context; the longest key list that is written, 16 configurations of 204 bytes. */
+   context; the longest key list that is written, 16 configurations of 204 bytes. The longest enc, key and nonce are those of the library's
+   table of algorithms, and hosts/c/test.c holds these numbers against it. */
 #define SEALWAX_INFO_LENGTH 29
 #define SEALWAX_LONGEST_SALT (133 + 32)
 #define SEALWAX_LONGEST_HEAD (7 + 133)

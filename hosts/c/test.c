@@ -251,6 +251,59 @@ static void longest_list(void) {
     EXPECT(is_at(result.outcome, SEALWAX_DUPLICATE_KEY_ID, 15 * 204 + 2));
 }
 
+/* Nenc as a head takes it, and Npk as a list does, by trying every length; 0 for an unknown KEM. */
+static size_t enc_length(uint16_t kem, const uint8_t *bytes, size_t most) {
+    static uint8_t head[4096];
+    uint8_t info[SEALWAX_INFO_LENGTH];
+    for (size_t length = 0; length <= most; length++) {
+        uint8_t number = sealwax_head(7, kem, 1, 1, bytes, length, head, sizeof head, info, sizeof info).outcome.number;
+        if (number != SEALWAX_WRONG_LENGTH) {
+            EXPECT(number == SEALWAX_ACCEPTED || number == SEALWAX_UNKNOWN_KEM);
+            return number == SEALWAX_ACCEPTED ? length : 0;
+        }
+    }
+    EXPECT(!"some enc is taken");
+    return 0;
+}
+
+static size_t key_length(uint16_t kem, const uint8_t *bytes, size_t most) {
+    static uint8_t buffer[4096];
+    const uint8_t id = 7;
+    const uint16_t pair[2] = {1, 1};
+    const size_t numbers = 2;
+    for (size_t length = 0; length <= most; length++) {
+        uint8_t number =
+            sealwax_write(&id, 1, &kem, 1, &length, 1, bytes, length, &numbers, 1, pair, 2, buffer, sizeof buffer).outcome.number;
+        if (number != SEALWAX_LENGTH_MISMATCH) {
+            EXPECT(number == SEALWAX_ACCEPTED || number == SEALWAX_UNKNOWN_KEM);
+            return number == SEALWAX_ACCEPTED ? length : 0;
+        }
+    }
+    EXPECT(!"some key is taken");
+    return 0;
+}
+
+static size_t larger(size_t a, size_t b) { return a < b ? b : a; }
+
+/* 02, A4: the library has its sizes from one table. The header's longest lengths are those of this table, over every KEM and AEAD number. */
+static void longest_lengths(void) {
+    static const uint8_t bytes[2048];
+    size_t longest_enc = 0, longest_key = 0, longest_nonce = 0;
+    for (uint32_t number = 0; number <= UINT16_MAX; number++) {
+        longest_enc = larger(longest_enc, enc_length((uint16_t)number, bytes, sizeof bytes));
+        longest_key = larger(longest_key, key_length((uint16_t)number, bytes, sizeof bytes));
+        uint8_t context[SEALWAX_EXPORTER_CONTEXT_LENGTH];
+        sealwax_exporter_result exporter = sealwax_exporter((uint16_t)number, context, sizeof context);
+        if (exporter.outcome.number == SEALWAX_ACCEPTED) {
+            longest_nonce = larger(longest_nonce, exporter.secret_length); /* the secret is as long as the response nonce */
+        }
+    }
+    EXPECT(SEALWAX_LONGEST_HEAD == 7 + longest_enc);
+    EXPECT(SEALWAX_LONGEST_SALT == longest_enc + longest_nonce);
+    EXPECT(SEALWAX_LONGEST_LIST == 16 * (2 + 5 + longest_key + 16 * 4));
+    EXPECT(SEALWAX_LONGEST_RESPONSE == longest_nonce + SEALWAX_LONGEST_PLAIN + 16);
+}
+
 /* 02, A1: a configuration of an unknown KEM, here of 3 bytes and with the key id of the one that is read, is skipped. */
 static void skipped(void) {
     static const uint8_t unknown[5] = {0, 3, 7, 0, 0x30};
@@ -295,6 +348,7 @@ int main(void) {
     memory();
     clients();
     longest_list();
+    longest_lengths();
     if (failures == 0) {
         puts("hosts/c: all hold");
     }

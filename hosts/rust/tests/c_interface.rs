@@ -633,3 +633,50 @@ fn sizes_are_the_librarys() {
     };
     assert_eq!(raw::sizes(), expected);
 }
+
+/// The first length that a call does not refuse with `wrong`: 0 where the call is refused all the same.
+fn taken(wrong: u8, call: impl Fn(usize) -> u8) -> usize {
+    let mut answers = (0..2048).map(|length| (length, call(length)));
+    let is_other = |answer: &(usize, u8)| answer.1 != wrong;
+    match answers.find(is_other).expect("some length is right") {
+        (length, 0) => length,
+        _ => 0,
+    }
+}
+
+/// 02, A4: the library has its sizes from one table, and the longest lengths are those of this table,
+/// over every KEM and AEAD number.
+#[test]
+fn longest_lengths_are_the_librarys() {
+    let bytes = [0; 2048];
+    let enc = |kem| {
+        taken(13, |length| {
+            let (mut head, mut info) = ([0; 2100], [0; 29]);
+            let given = raw::head(7, kem, (1, 1), &bytes[..length], &mut head, &mut info);
+            given.outcome.number
+        })
+    };
+    let key = |kem| {
+        taken(19, |length| {
+            let fields = raw::Fields {
+                key_ids: vec![7],
+                kems: vec![kem],
+                key_lengths: vec![length],
+                keys: vec![0; length],
+                pair_counts: vec![2],
+                pairs: vec![1, 1],
+            };
+            raw::write(&fields, &mut [0; 2100]).outcome.number
+        })
+    };
+    let nonce = |aead| match raw::exporter(aead, &mut [0; 22]) {
+        answer if answer.outcome.number == 0 => answer.secret_length,
+        _ => 0,
+    };
+    let longest_enc = (0..=u16::MAX).map(enc).max().unwrap();
+    let longest_key = (0..=u16::MAX).map(key).max().unwrap();
+    let longest_nonce = (0..=u16::MAX).map(nonce).max().unwrap();
+    assert_eq!(raw::LONGEST_HEAD, 7 + longest_enc);
+    assert_eq!(raw::LONGEST_SALT, longest_enc + longest_nonce);
+    assert_eq!(raw::LONGEST_LIST, 16 * (2 + 5 + longest_key + 16 * 4));
+}
