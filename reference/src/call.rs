@@ -8,7 +8,7 @@ use crate::pending::Engine;
 pub const LONGEST_LINE: usize = 140_100;
 /// A request, list, response, enc or nonce.
 pub const LONGEST_BYTES: usize = 70_000;
-const LARGEST_ROOM: usize = 256;
+pub const LARGEST_ROOM: usize = 256;
 const LARGEST_WRITE_ROOM: usize = 4_096;
 const MOST_WRITTEN: usize = 17;
 const LONGEST_WRITTEN_KEY: usize = 255;
@@ -230,7 +230,7 @@ fn read_result(word: &[u8]) -> Option<bool> {
 }
 
 /// A decimal of at most 2^64 - 1; leading zeros are allowed.
-fn read_decimal(word: &[u8]) -> Option<u64> {
+pub fn read_decimal(word: &[u8]) -> Option<u64> {
     if word.is_empty() {
         return None;
     }
@@ -288,7 +288,7 @@ fn read_numbers(word: &[u8]) -> Option<Vec<u16>> {
 }
 
 /// A KEM, KDF or AEAD number: exactly four hex digits.
-fn read_number(word: &[u8]) -> Option<u16> {
+pub fn read_number(word: &[u8]) -> Option<u16> {
     if word.len() != 4 {
         return None;
     }

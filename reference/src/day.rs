@@ -1,6 +1,6 @@
 //! An ordinary day, for timing: one setup, then exchanges that are answered in any order.
 
-use crate::algorithms::{shortest_request, HEAD_LENGTH};
+use crate::algorithms::{nenc, npk, response_nonce_length, shortest_request, HEAD_LENGTH};
 use crate::answer::hex;
 use crate::generate::encode_all;
 use crate::list_writer::Fields;
@@ -12,8 +12,6 @@ const CAP: u64 = 1_000_000_000;
 
 /// A key's id, KEM and AEAD; the KDF is 0x0001 for all.
 const KEYS: [(u8, u16, u16); 3] = [(1, 0x0020, 1), (2, 0x0020, 3), (3, 0x0010, 2)];
-const ENC_LENGTHS: [usize; 3] = [32, 32, 65];
-const NONCE_LENGTHS: [usize; 3] = [16, 32, 32];
 
 struct Exchange {
     ticket: u64,
@@ -45,11 +43,11 @@ pub fn day(seed: u64, calls: u64, output: &mut impl Write) -> io::Result<()> {
 impl Day {
     fn setup(&mut self) -> String {
         let mut configurations = Vec::new();
-        for (place, (id, kem, aead)) in KEYS.into_iter().enumerate() {
+        for (id, kem, aead) in KEYS {
             configurations.push(Fields {
                 id,
                 kem,
-                public_key: self.random.bytes(ENC_LENGTHS[place]),
+                public_key: self.random.bytes(npk(kem).unwrap_or(0)),
                 pairs: vec![2, 2, 1, aead],
             });
         }
@@ -85,7 +83,7 @@ impl Day {
         let key = self.random.below(KEYS.len());
         let (id, kem, aead) = KEYS[key];
         let shortest = shortest_request(kem).unwrap_or(0);
-        let length = self.random.between(shortest, 400);
+        let length = self.random.between(shortest, shortest.max(400));
         let mut request = vec![id];
         for number in [kem, 1, aead] {
             request.extend(number.to_be_bytes());
@@ -121,7 +119,9 @@ impl Day {
 
     fn respond(&mut self, place: usize) -> String {
         let Exchange { ticket, key, .. } = self.pending.swap_remove(place);
-        let (enc, nonce) = (ENC_LENGTHS[key], NONCE_LENGTHS[key]);
+        let (_, kem, aead) = KEYS[key];
+        let enc = nenc(kem).unwrap_or(0);
+        let nonce = response_nonce_length(aead).unwrap_or(0);
         format!(
             "respond {ticket} {} {} {} {}",
             hex(&self.random.bytes(enc)),

@@ -1,6 +1,6 @@
 //! Key lists, read: 01, "Layouts", key list, and the key reader; 02, A1 and A2.
 
-use crate::algorithms::{nenc, Pair};
+use crate::algorithms::{npk, Pair};
 use crate::refusal::{refusal, refusal_at, Refusal};
 use std::ops::Range;
 
@@ -94,7 +94,7 @@ pub fn kem_of(inside: &[u8]) -> Option<u16> {
 fn read_inside(inside: &[u8], start: usize) -> Result<Option<Configuration>, Refusal> {
     let disagree = refusal_at(19, start);
     let kem = kem_of(inside).ok_or(disagree)?;
-    let npk = match nenc(kem) {
+    let npk = match npk(kem) {
         Some(npk) => npk,
         // "has an unknown KEM is now skipped, its inside unread"
         None => return Ok(None),

@@ -1,6 +1,6 @@
 //! The list writer: 01, "Client side"; 02, A2.
 
-use crate::algorithms::nenc;
+use crate::algorithms::npk;
 use crate::key_list::{pairs_length_is_good, ID_PLACE, KEM_PLACE, KEY_PLACE, MOST_CONFIGURATIONS};
 use crate::refusal::{refusal, refusal_at, Refusal};
 use crate::request::write_front;
@@ -92,7 +92,7 @@ impl Walk<'_> {
             return Err(refusal_at(22, start));
         }
         let kem = rows.kems.get(place).copied().unwrap_or(0);
-        let npk = nenc(kem).ok_or_else(|| refusal_at(3, start + KEM_PLACE))?;
+        let npk = npk(kem).ok_or_else(|| refusal_at(3, start + KEM_PLACE))?;
         let public_key = take(&mut self.keys, rows.key_lengths.get(place))
             .filter(|key| key.len() == npk)
             .ok_or_else(|| refusal_at(19, start))?;

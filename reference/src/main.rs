@@ -1,6 +1,7 @@
 //! The reference: an independent implementation of the gateway's bookkeeping (document 01),
 //! which `sealwax` is held against.
 
+use reference::algorithms::NencChange;
 use reference::compare::{self, cut, Difference, Summary};
 use reference::pending::Engine;
 use reference::{day, generate, replay};
@@ -8,10 +9,11 @@ use std::fs::{self, File};
 use std::io::{self, BufReader, BufWriter};
 use std::process::exit;
 
-const USAGE: &str = "usage: reference replay | moved | by ENGINE
-       reference generate SEED CALLS
-       reference day SEED CALLS
-       reference compare CALLS-FILE ANSWERS-FILE [NAME] [--least N]";
+const USAGE: &str = "usage: reference [--nenc KEM=SIZE] replay | moved | by ENGINE
+       reference [--nenc KEM=SIZE] generate SEED CALLS
+       reference [--nenc KEM=SIZE] day SEED CALLS
+       reference [--nenc KEM=SIZE] compare CALLS-FILE ANSWERS-FILE [NAME] [--least N]
+       --nenc: as if this KEM, four hex digits, had this Nenc, from 1 to 65535";
 
 /// The uncut prefix that shows a difference.
 const DIFFERENCE_FILE: &str = "difference.calls";
@@ -28,8 +30,20 @@ fn main() {
     }
 }
 
-/// Runs a subcommand and gives the exit status.
+/// Runs a subcommand, with the change of Nenc that stands before it, and gives the exit status.
 fn run(words: &[&str]) -> io::Result<i32> {
+    let subcommand = match words {
+        ["--nenc", change, subcommand @ ..] => {
+            let error = |text| invalid(format!("--nenc: {text}"));
+            NencChange::read(change).map_err(error)?.make();
+            subcommand
+        }
+        _ => words,
+    };
+    run_subcommand(subcommand)
+}
+
+fn run_subcommand(words: &[&str]) -> io::Result<i32> {
     let input = BufReader::with_capacity(1 << 16, io::stdin());
     let mut output = BufWriter::with_capacity(1 << 16, io::stdout());
     match words {
@@ -54,8 +68,12 @@ fn usage() -> io::Result<i32> {
     Ok(2)
 }
 
+fn invalid(text: String) -> io::Error {
+    io::Error::new(io::ErrorKind::InvalidInput, text)
+}
+
 fn number(word: &str) -> io::Result<u64> {
-    let error = || io::Error::new(io::ErrorKind::InvalidInput, format!("no number: {word}"));
+    let error = || invalid(format!("no number: {word}"));
     word.parse().map_err(|_| error())
 }
 

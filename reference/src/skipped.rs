@@ -1,7 +1,7 @@
 //! Key ids and KEMs of skipped configurations (02, A1). No rule asks for them, since the inside
 //! stays unread: the generator puts them into calls, and the table counts such calls.
 
-use crate::algorithms::nenc;
+use crate::algorithms::npk;
 use crate::key_list::{inside_at, kem_of, LENGTH_SIZE};
 
 #[derive(Clone, Copy, Debug, PartialEq, Eq)]
@@ -16,7 +16,7 @@ pub fn skipped(list: &[u8]) -> Vec<Skipped> {
     let mut start = 0;
     while let Some(inside) = inside_at(list, start) {
         match kem_of(inside) {
-            Some(kem) if nenc(kem).is_none() => all.push(Skipped { id: inside[0], kem }),
+            Some(kem) if npk(kem).is_none() => all.push(Skipped { id: inside[0], kem }),
             _ => {}
         }
         start += LENGTH_SIZE + inside.len();

@@ -2,7 +2,7 @@
 //! in anywhere, a good list is read into the same configurations and what is wrong with a bad one
 //! stays (02, A2), places aside; and so in setup, key reader and choose.
 
-use crate::algorithms::nenc;
+use crate::algorithms::npk;
 use crate::client::{choose, Chosen};
 use crate::gateway::Gateway;
 use crate::keeper::Keeper;
@@ -24,7 +24,7 @@ fn configurations(random: &mut Random, count: usize) -> Vec<Vec<u8>> {
         encode(&Fields {
             id: first_id.wrapping_add(place as u8),
             kem,
-            public_key: random.bytes(nenc(kem).unwrap()),
+            public_key: random.bytes(npk(kem).unwrap()),
             pairs: (0..pairs).map(|_| random.between(0, 4) as u16).collect(),
         })
     };
@@ -207,14 +207,14 @@ fn spoilt(random: &mut Random, good: &[u8]) -> (Vec<u8>, u8) {
         4 => {
             let mut bad = good.to_vec();
             let kem = u16::from_be_bytes([good[3], good[4]]);
-            bad[6 + nenc(kem).unwrap()] = random.pick(&[0, 1, 66, 68]);
+            bad[6 + npk(kem).unwrap()] = random.pick(&[0, 1, 66, 68]);
             (bad, 20)
         }
         _ => {
             let mut bad = good.to_vec();
             let kem = u16::from_be_bytes([good[3], good[4]]);
             bad[1] += 2;
-            bad[6 + nenc(kem).unwrap()] += 2;
+            bad[6 + npk(kem).unwrap()] += 2;
             ([bad, vec![0, 0]].concat(), 20)
         }
     }

@@ -1,6 +1,6 @@
 //! How often each answer was reached, call by call.
 
-use crate::algorithms::nenc;
+use crate::algorithms::{kems, npk};
 use crate::call::{Call, Line};
 use crate::key_list::{
     inside_at, kem_of, number_at, pairs_length_is_good, read_list, KeyList, KEM_PLACE, LENGTH_SIZE,
@@ -272,7 +272,7 @@ fn has_id(all: &[Skipped], id: u8) -> bool {
 }
 
 fn is_unknown(kem: u16) -> bool {
-    nenc(kem).is_none()
+    npk(kem).is_none()
 }
 
 /// The cases that hold for a key list.
@@ -309,7 +309,7 @@ fn cut_case(list: &[u8], start: usize) -> &'static str {
 
 /// The cases of a bad configuration that does.
 fn inside_cases(inside: &[u8], front: &KeyList) -> Vec<&'static str> {
-    let npk = match kem_of(inside).map(nenc) {
+    let npk = match kem_of(inside).map(npk) {
         None => return vec![SHORT],
         Some(None) => return vec![UNKNOWN],
         Some(Some(npk)) => npk,
@@ -361,8 +361,9 @@ fn given_cases(configurations: &[Fields]) -> Vec<&'static str> {
     note(&mut cases, TWIN, is_twin);
     note(&mut cases, UNKNOWN, is_unknown(bad.kem));
     let key = bad.public_key.len();
-    note(&mut cases, BAD_KEY, ![32, 56, 65, 97, 133].contains(&key));
-    if let Some(npk) = nenc(bad.kem) {
+    let is_good = kems().any(|kem| npk(kem) == Some(key));
+    note(&mut cases, BAD_KEY, !is_good);
+    if let Some(npk) = npk(bad.kem) {
         cases.extend(length_cases(npk, key));
     }
     let pairs_length = 2 * bad.pairs.len();

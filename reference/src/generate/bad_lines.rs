@@ -1,5 +1,7 @@
 //! Lines that are no calls, or nearly; comments and empty lines.
 
+use super::key_lists::X25519;
+use crate::algorithms::npk;
 use crate::random::Random;
 
 /// Lines at the edges of the words; those at the end are calls.
@@ -124,11 +126,12 @@ fn drop_last_word(line: &mut Vec<u8>) {
 fn limits_of_write(random: &mut Random) -> String {
     let configuration = |key: usize, numbers: usize| {
         let (key, pairs) = ("5a".repeat(key), "0001".repeat(numbers));
-        format!(" 3 0020 {key} {pairs}")
+        format!(" 3 {X25519:04x} {key} {pairs}")
     };
+    let npk = npk(X25519).unwrap_or(0);
     match random.below(4) {
         0 => format!("write 0{}", configuration(random.between(255, 256), 2)),
-        1 => format!("write 0{}", configuration(32, random.between(40, 41))),
+        1 => format!("write 0{}", configuration(npk, random.between(40, 41))),
         2 => format!(
             "write 0{}",
             configuration(1, 1).repeat(random.between(17, 18))

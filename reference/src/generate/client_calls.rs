@@ -2,10 +2,12 @@
 
 use super::key_lists::{
     configurations, kem, known_number, long, nearly_right, number, small, small_count, unknown_kem,
-    unknown_number, KEMS,
+    unknown_number, KEMS, X25519,
 };
-use crate::algorithms::{nenc, response_nonce_length, HEAD_LENGTH};
+use super::ticket_calls::any_enc_length;
+use crate::algorithms::{nenc, npk, response_nonce_length, HEAD_LENGTH, NN, TAG_LENGTH};
 use crate::answer::hex;
+use crate::call::LARGEST_ROOM;
 use crate::client::EXPORTER_CONTEXT;
 use crate::key_list::{read_list, Configuration, MOST_CONFIGURATIONS};
 use crate::list_writer::{encode, Fields};
@@ -112,7 +114,7 @@ pub fn head(random: &mut Random) -> String {
     let right = nenc(named).unwrap_or(0);
     let enc = match random.below(8) {
         0 => random.one_off(right),
-        1 => random.pick(&[0, 32, 56, 65, 97, 133]),
+        1 => any_enc_length(random),
         _ => right,
     };
     let named = if random.one_in(8) {
@@ -134,13 +136,14 @@ pub fn head(random: &mut Random) -> String {
 
 /// Just enough room most of the time.
 fn room_around(random: &mut Random, enough: usize) -> usize {
-    match random.below(12) {
+    let room = match random.below(12) {
         0 => enough - 1,
         1 => enough + 1,
         2 => random.pick(&[0, 256]),
         3 => random.below(257),
         _ => enough,
-    }
+    };
+    room.min(LARGEST_ROOM)
 }
 
 pub fn exporter(random: &mut Random) -> String {
@@ -150,13 +153,15 @@ pub fn exporter(random: &mut Random) -> String {
 
 pub fn split(random: &mut Random) -> String {
     let aead = number(random);
-    let nonce = response_nonce_length(aead).unwrap_or(32);
+    // An unknown AEAD gets the nonce of a known one.
+    let nonce = response_nonce_length(aead).or_else(|| response_nonce_length(3));
+    let nonce = nonce.unwrap_or(0);
     let length = match random.below(8) {
-        0 => nonce + 15,
-        1 | 2 => nonce + 16,
-        3 => 12 + random.between(15, 16),
+        0 => nonce + TAG_LENGTH - 1,
+        1 | 2 => nonce + TAG_LENGTH,
+        3 => NN + random.between(TAG_LENGTH - 1, TAG_LENGTH),
         4 => random.pick(&[0, 1, nonce, nonce + 1]),
-        _ => nonce + random.between(16, 100),
+        _ => nonce + random.between(TAG_LENGTH, 100),
     };
     let long = [nonce + 65_552, nonce + 65_553, nonce + 65_553, 70_000];
     let length = if random.one_in(65) {
@@ -242,7 +247,10 @@ fn spoil_fields(random: &mut Random, fields: &mut Fields, first_id: u8) {
             let length = fields.public_key.len();
             fields.public_key.resize(random.one_off(length), 0);
         }
-        2 => fields.public_key.resize(random.pick(&[0, 1, 32, 255]), 0),
+        2 => {
+            let npk = npk(X25519).unwrap_or(0);
+            fields.public_key.resize(random.pick(&[0, 1, npk, 255]), 0);
+        }
         3 | 4 => fields.kem = unknown_kem(random),
         5 => fields.kem = random.pick(&KEMS),
         6 => fields.pairs.clear(),

@@ -1,17 +1,18 @@
 //! Key lists: good ones and nearly right ones, with skipped configurations in some of them.
 
-use crate::algorithms::nenc;
+use crate::algorithms::npk;
 use crate::key_list::MOST_CONFIGURATIONS;
 use crate::list_writer::{encode, Fields};
 use crate::random::Random;
 
-pub const KEMS: [u16; 5] = [0x0010, 0x0011, 0x0012, 0x0020, 0x0021];
+pub const X25519: u16 = 0x0020;
+pub const KEMS: [u16; 5] = [0x0010, 0x0011, 0x0012, X25519, 0x0021];
 const UNKNOWN_KEMS: [u16; 9] = [0, 1, 0x000f, 0x0013, 0x0022, 0x0030, 0x0120, 0x2000, 0xffff];
 const UNKNOWN_NUMBERS: [u16; 7] = [0, 4, 0x0100, 0x0101, 0x0010, 0xfffe, 0xffff];
 
 pub fn kem(random: &mut Random) -> u16 {
     if random.one_in(2) {
-        0x0020
+        X25519
     } else {
         random.pick(&KEMS)
     }
@@ -65,7 +66,7 @@ fn configuration(random: &mut Random, id: u8) -> Fields {
     Fields {
         id,
         kem,
-        public_key: random.bytes(nenc(kem).unwrap_or(0)),
+        public_key: random.bytes(npk(kem).unwrap_or(0)),
         pairs: pairs(random),
     }
 }

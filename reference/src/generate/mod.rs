@@ -234,7 +234,7 @@ fn caps(aim: Aim) -> &'static [u64] {
 #[cfg(test)]
 mod tests {
     use super::*;
-    use crate::algorithms::nenc;
+    use crate::algorithms::npk;
     use crate::key_list::{inside_at, kem_of, number_at, read_list, LENGTH_SIZE};
     use crate::replay::Replay;
     use crate::table::{first_bad, name};
@@ -354,7 +354,7 @@ mod tests {
 
     /// What there is of unknown KEMs in a list.
     fn unknown_kems(list: &[u8]) -> Vec<&'static str> {
-        let is_unknown = |kem: Option<u16>| kem.map_or(false, |kem| nenc(kem).is_none());
+        let is_unknown = |kem: Option<u16>| kem.map_or(false, |kem| npk(kem).is_none());
         let mut insides = Vec::new();
         let mut start = 0;
         while let Some(inside) = inside_at(list, start) {

@@ -1,6 +1,6 @@
 //! Admissions: right requests and requests with one fault or more.
 
-use super::key_lists::{known_number, unknown_kem, unknown_number, KEMS};
+use super::key_lists::{known_number, unknown_kem, unknown_number, KEMS, X25519};
 use crate::algorithms::{shortest_request, Pair, HEAD_LENGTH};
 use crate::answer::hex;
 use crate::gateway::{Gateway, Key};
@@ -90,9 +90,15 @@ fn known_pair(random: &mut Random) -> Pair {
     }
 }
 
+/// The KEM's shortest request; for an unknown KEM that of X25519.
+fn shortest(kem: u16) -> usize {
+    let shortest = shortest_request(kem).or_else(|| shortest_request(X25519));
+    shortest.unwrap_or(HEAD_LENGTH)
+}
+
 /// The shortest, or somewhat longer.
 fn long_enough(random: &mut Random, kem: u16) -> usize {
-    let shortest = shortest_request(kem).unwrap_or(HEAD_LENGTH);
+    let shortest = shortest(kem);
     match random.below(10) {
         0..=4 => shortest,
         5..=8 => shortest + random.below(20),
@@ -101,7 +107,6 @@ fn long_enough(random: &mut Random, kem: u16) -> usize {
 }
 
 fn spoil(random: &mut Random, gateway: &Gateway, draft: &mut Draft) {
-    let shortest = shortest_request(draft.kem).unwrap_or(55);
     match random.below(15) {
         0 => draft.id = absent_id(random, gateway),
         1 => draft.kem = unknown_kem(random),
@@ -117,11 +122,11 @@ fn spoil(random: &mut Random, gateway: &Gateway, draft: &mut Draft) {
         8 => unknown_but_listed(random, gateway, draft),
         9 => *draft = draft_of(random, gateway, |key| key.retired),
         10 => *draft = draft_of(random, gateway, |key| key.count == gateway.cap),
-        11 => draft.length = shortest - 1,
+        11 => draft.length = shortest(draft.kem) - 1,
         12 => draft.length = random.pick(&[0, 1, 6, 6, 7, 7, 8]),
         13 => {
             draft.kem = unknown_kem(random);
-            draft.length = random.pick(&[6, 7, 54]);
+            draft.length = random.pick(&[6, 7, shortest(draft.kem) - 1]);
         }
         _ => draft.id = any_key_id(random, gateway),
     }

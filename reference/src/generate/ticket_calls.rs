@@ -1,8 +1,9 @@
 //! Open results, responds, abandons and retirements.
 
 use super::key_lists::{kem, known_number};
-use crate::algorithms::{nenc, response_nonce_length};
+use crate::algorithms::{kems, nenc, npk, response_nonce_length, NN, TAG_LENGTH};
 use crate::answer::hex;
+use crate::call::LARGEST_ROOM;
 use crate::gateway::{Exchange, Gateway, State};
 use crate::random::Random;
 use crate::skipped::Skipped;
@@ -14,7 +15,7 @@ pub fn open(random: &mut Random, gateway: &Gateway) -> String {
     let n = match random.below(16) {
         0 => right + 1,
         1 => right.wrapping_sub(1),
-        2 => right + 16,
+        2 => right + TAG_LENGTH as u64,
         3 => random.pick(&[0, 65_536, right + 65_536, right + (1 << 32), u64::MAX]),
         _ => right,
     };
@@ -30,12 +31,12 @@ pub fn respond(random: &mut Random, gateway: &Gateway) -> String {
     };
     let enc_length = match random.below(12) {
         0 => random.one_off(enc),
-        1 => random.pick(&[0, 32, 56, 65, 97, 133]),
+        1 => any_enc_length(random),
         _ => enc,
     };
     let nonce_length = match random.below(12) {
         0 => random.one_off(nonce),
-        1 => random.pick(&[0, 12, 12, 16, 32]),
+        1 => any_nonce_length(random),
         _ => nonce,
     };
     let room = respond_room(random, enc_length + nonce_length);
@@ -48,6 +49,21 @@ pub fn respond(random: &mut Random, gateway: &Gateway) -> String {
     )
 }
 
+/// 0 or a size of any KEM, Npk too, which is no length of enc where Nenc is another.
+pub fn any_enc_length(random: &mut Random) -> usize {
+    let sizes = kems().flat_map(|kem| [nenc(kem), npk(kem)]);
+    let mut lengths: Vec<usize> = sizes.flatten().chain([0]).collect();
+    lengths.sort_unstable();
+    lengths.dedup();
+    random.pick(&lengths)
+}
+
+/// 0, Nn, which is no nonce's length, or that of any AEAD.
+fn any_nonce_length(random: &mut Random) -> usize {
+    let nonce = |aead| response_nonce_length(aead).unwrap_or(0);
+    random.pick(&[0, NN, NN, nonce(1), nonce(2)])
+}
+
 fn any_lengths(random: &mut Random) -> (usize, usize) {
     let enc = nenc(kem(random)).unwrap_or(0);
     let nonce = response_nonce_length(known_number(random)).unwrap_or(0);
@@ -55,13 +71,14 @@ fn any_lengths(random: &mut Random) -> (usize, usize) {
 }
 
 fn respond_room(random: &mut Random, enough: usize) -> usize {
-    match random.below(12) {
+    let room = match random.below(12) {
         0 => enough.saturating_sub(1),
         1 => enough + 1,
         2 => random.pick(&[0, 256]),
         3 => random.below(257),
         _ => enough,
-    }
+    };
+    room.min(LARGEST_ROOM)
 }
 
 fn plain(random: &mut Random) -> u64 {
