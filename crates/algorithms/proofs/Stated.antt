@@ -1,8 +1,8 @@
 -- The statements of specs/Stated, proved.
 -- Assumes nothing.
-use mathlib.Core.Path.{_≡_, refl, sym, ap, _∙_}
+use mathlib.Core.Path.{_≡_, refl, sym, _∙_}
 use mathlib.Core.Bool.{Bool, true, false}
-use mathlib.Core.List.{List, [], _∷_, _++_}
+use mathlib.Core.List.{List, [], _∷_, _++_, map}
 use lib.ListN.{getD, length, List·getD-eq-default}
 use Prim.Native.Nat.{ℕ, _≤_, _<_}
 use native.Mathlib.Omega.{arith}
@@ -15,7 +15,7 @@ use Rattle.wire.proofs.Matches.{first-passes, any-by-place}
 use Rattle.algorithms.specs.declared.Row.{Row}
 use Rattle.algorithms.specs.Table.{table, rowIn, rowOf, isRow, noRow, kemKind, kdfKind, aeadKind}
 use Rattle.algorithms.specs.Sizes.{isKnown, knownKem, knownKdf, knownAead, encLength, publicKeyLength, keyLength}
-use Rattle.algorithms.specs.Stated.{SizesOfThePaper, KnownNumbers, ReadFromTheTable, SizeBounds, sizeBound}
+use Rattle.algorithms.specs.Stated.{SizesOfThePaper, KnownNumbers, withNenc, ReadFromTheTable, SizeBounds, sizeBound}
 use Rattle.algorithms.proofs.Rows.{of-row, every}
 
 pub sizes-of-the-paper : SizesOfThePaper
@@ -80,24 +80,29 @@ found-first (x ∷ before) behind row h =
     let is = none-first (isRow (row .kind) (row .number) x) h in
     passed (row .kind) (row .number) x (before ++ row ∷ behind) (is .0) ∙ found-first before behind row (is .1)
 
-others-stay : (before behind : List Row) (row changed : Row) (kind number : ℕ) → isRow kind number row ≡ false → isRow kind number changed ≡ false
-    → rowIn (before ++ changed ∷ behind) kind number ≡ rowIn (before ++ row ∷ behind) kind number
-others-stay [] behind row changed kind number a b = passed kind number changed behind b ∙ sym (passed kind number row behind a)
-others-stay (x ∷ before) behind row changed kind number a b =
-    in-first kind number x (before ++ changed ∷ behind)
-    ∙ ap (pick (isRow kind number x) x) (others-stay before behind row changed kind number a b)
-    ∙ sym (in-first kind number x (before ++ row ∷ behind))
-
 not-found : (rows : List Row) (kind number : ℕ) → anyPasses (isRow kind number) rows ≡ false → rowIn rows kind number ≡ noRow
 not-found rows kind number h =
     List·getD-eq-default rows noRow (leb-true (length rows) (firstPlace (isRow kind number) rows) (sym (any-by-place noRow (isRow kind number) rows) ∙ rw h))
+
+-- another Nenc leaves kind and number
+same-number : (kem nenc kind number : ℕ) (row : Row) → isRow kind number (withNenc kem nenc row) ≡ isRow kind number row
+same-number kem nenc kind number row = either (isRow kemKind kem row) (λ is. rw is) (λ is. rw is)
+
+-- where the row is found, it is the changed one; else the others are looked at, changed
+nenc-changed : (rows : List Row) (kem nenc kind number : ℕ)
+    → rowIn (map (withNenc kem nenc) rows) kind number ≡ withNenc kem nenc (rowIn rows kind number)
+nenc-changed [] kem nenc kind number = refl
+nenc-changed (row ∷ rows) kem nenc kind number =
+    in-first kind number (withNenc kem nenc row) (map (withNenc kem nenc) rows)
+    ∙ rw (same-number kem nenc kind number row, nenc-changed rows kem nenc kind number, in-first kind number row rows)
+    (either (isRow kind number row) (λ is. rw is) (λ is. rw is))
 
 pub read-from-the-table : ReadFromTheTable
 read-from-the-table =
     record {
       found = λ before behind row none. found-first before behind row none;
-      others = λ before behind row changed kind number a b. others-stay before behind row changed kind number a b;
       unknown = λ rows kind number none. not-found rows kind number none;
+      nencChanged = nenc-changed;
     }
 
 -- each test below passes at every row, computed over the table

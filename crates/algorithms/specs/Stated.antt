@@ -4,9 +4,10 @@ use Prim.Native.Nat.{ℕ, _≤_, _<_}
 use mathlib.Core.Path.{_≡_}
 use mathlib.Core.Bool.{true, false}
 use mathlib.Core.List.{List, [], _∷_, _++_, map}
+use Rattle.wire.specs.Tests.{pick}
 use Rattle.wire.specs.Search.{among, anyPasses}
 use Rattle.algorithms.specs.declared.Row.{Row}
-use Rattle.algorithms.specs.Table.{isRow, rowIn, noRow}
+use Rattle.algorithms.specs.Table.{kemKind, tableRow, isRow, rowIn, noRow}
 use Rattle.algorithms.specs.Sizes.{knownKem, knownKdf, knownAead, encLength, publicKeyLength, keyLength, shortestRequest, responseNonceLength}
 
 -- 01's KEMs, KDFs and AEADs, in its order
@@ -34,16 +35,20 @@ pub record KnownNumbers : Type 0 where
   pub aead : (number : ℕ) → knownAead number ≡ among aeads number
   pub exportOnly : knownAead 0xFFFF ≡ false
 
--- 02, A4, whatever rows a table has: a lookup gives the first row of its kind and number as it stands there; what stands in a row of
--- another kind or number changes nothing; and where there is no such row, it gives none. Each size is read from that row (`Sizes`).
+-- 02, A4, "only one row's Nenc changed": a row with this Nenc where it is the KEM's, and else as it is
+abbrev pub withNenc : ℕ → ℕ → Row → Row
+withNenc kem nenc row = pick (isRow kemKind kem row) (tableRow (row .kind) (row .number) nenc (row .«public_key») (row .key)) row
+
+-- 02, A4, whatever rows a table has: a lookup gives the first row of its kind and number as it stands there, and noRow where there is none; with
+-- only one row's Nenc changed it gives that row with the new Nenc, and every other as before. Each size is read from the row found (`Sizes`).
 pub record ReadFromTheTable : Type 0 where
   pub found : (before behind : List Row) (row : Row) → anyPasses (isRow (row .kind) (row .number)) before ≡ false
       → rowIn (before ++ row ∷ behind) (row .kind) (row .number) ≡ row
-  pub others : (before behind : List Row) (row changed : Row) (kind number : ℕ) → isRow kind number row ≡ false → isRow kind number changed ≡ false
-      → rowIn (before ++ changed ∷ behind) kind number ≡ rowIn (before ++ row ∷ behind) kind number
   pub unknown : (rows : List Row) (kind number : ℕ) → anyPasses (isRow kind number) rows ≡ false → rowIn rows kind number ≡ noRow
+  pub nencChanged : (rows : List Row) (kem nenc kind number : ℕ)
+      → rowIn (map (withNenc kem nenc) rows) kind number ≡ withNenc kem nenc (rowIn rows kind number)
 
--- a bound for sums: no size is above it, and a row may change far below it
+-- a bound for sums, and no size: no size of the table is above it
 abbrev pub sizeBound : ℕ
 sizeBound = 4096
 
