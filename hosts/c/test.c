@@ -256,7 +256,7 @@ static size_t enc_length(uint16_t kem, const uint8_t *bytes, size_t most) {
     static uint8_t head[4096];
     uint8_t info[SEALWAX_INFO_LENGTH];
     for (size_t length = 0; length <= most; length++) {
-        uint8_t number = sealwax_head(7, kem, 1, 1, bytes, length, head, sizeof head, info, sizeof info).outcome.number;
+        uint8_t number = sealwax_head(7, kem, 1, 3, bytes, length, head, sizeof head, info, sizeof info).outcome.number;
         if (number != SEALWAX_WRONG_LENGTH) {
             EXPECT(number == SEALWAX_ACCEPTED || number == SEALWAX_UNKNOWN_KEM);
             return number == SEALWAX_ACCEPTED ? length : 0;
@@ -269,7 +269,7 @@ static size_t enc_length(uint16_t kem, const uint8_t *bytes, size_t most) {
 static size_t key_length(uint16_t kem, const uint8_t *bytes, size_t most) {
     static uint8_t buffer[4096];
     const uint8_t id = 7;
-    const uint16_t pair[2] = {1, 1};
+    const uint16_t pair[2] = {1, 3};
     const size_t numbers = 2;
     for (size_t length = 0; length <= most; length++) {
         uint8_t number =

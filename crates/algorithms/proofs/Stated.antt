@@ -98,8 +98,12 @@ nenc-changed (row ∷ rows) kem nenc kind number =
     (either (isRow kind number row) (λ is. rw is) (λ is. rw is))
 
 pub read-from-the-table : ReadFromTheTable
+unfolding knownKem knownKdf knownAead encLength publicKeyLength keyLength rowOf
 read-from-the-table =
     record {
+      kemSizes = λ number. (refl, refl, refl);
+      kdfKnown = λ number. refl;
+      aeadSizes = λ number. (refl, refl);
       found = λ before behind row none. found-first before behind row none;
       unknown = λ rows kind number none. not-found rows kind number none;
       nencChanged = nenc-changed;

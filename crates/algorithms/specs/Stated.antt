@@ -7,8 +7,8 @@ use mathlib.Core.List.{List, [], _∷_, _++_, map}
 use Rattle.wire.specs.Tests.{pick}
 use Rattle.wire.specs.Search.{among, anyPasses}
 use Rattle.algorithms.specs.declared.Row.{Row}
-use Rattle.algorithms.specs.Table.{kemKind, tableRow, isRow, rowIn, noRow}
-use Rattle.algorithms.specs.Sizes.{knownKem, knownKdf, knownAead, encLength, publicKeyLength, keyLength, shortestRequest, responseNonceLength}
+use Rattle.algorithms.specs.Table.{kemKind, kdfKind, aeadKind, tableRow, table, isRow, rowIn, noRow}
+use Rattle.algorithms.specs.Sizes.{isKnown, knownKem, knownKdf, knownAead, encLength, publicKeyLength, keyLength, shortestRequest, responseNonceLength}
 
 -- 01's KEMs, KDFs and AEADs, in its order
 abbrev pub kems : List ℕ
@@ -39,16 +39,21 @@ pub record KnownNumbers : Type 0 where
 abbrev pub withNenc : ℕ → ℕ → Row → Row
 withNenc kem nenc row = pick (isRow kemKind kem row) (tableRow (row .kind) (row .number) nenc (row .«public_key») (row .key)) row
 
--- 02, A4, whatever rows a table has: a lookup gives the first row of its kind and number as it stands there, and noRow where there is none; with
--- only one row's Nenc changed it gives that row with the new Nenc, and every other as before. Each size is read from the row found (`Sizes`).
+-- 02, A4: for every number the sizes are those of the row that a lookup in the table finds; and whatever rows a table has, a lookup gives the first
+-- row of its kind and number as it stands there, and noRow where there is none. With only one row's Nenc changed it gives that row with the
+-- new Nenc, and every other as before.
 pub record ReadFromTheTable : Type 0 where
+  pub kemSizes : (number : ℕ) → let row = rowIn table kemKind number in
+      (knownKem number ≡ isKnown row) × (encLength number ≡ row .enc) × (publicKeyLength number ≡ row .«public_key»)
+  pub kdfKnown : (number : ℕ) → knownKdf number ≡ isKnown (rowIn table kdfKind number)
+  pub aeadSizes : (number : ℕ) → let row = rowIn table aeadKind number in (knownAead number ≡ isKnown row) × (keyLength number ≡ row .key)
   pub found : (before behind : List Row) (row : Row) → anyPasses (isRow (row .kind) (row .number)) before ≡ false
       → rowIn (before ++ row ∷ behind) (row .kind) (row .number) ≡ row
   pub unknown : (rows : List Row) (kind number : ℕ) → anyPasses (isRow kind number) rows ≡ false → rowIn rows kind number ≡ noRow
   pub nencChanged : (rows : List Row) (kem nenc kind number : ℕ)
       → rowIn (map (withNenc kem nenc) rows) kind number ≡ withNenc kem nenc (rowIn rows kind number)
 
--- a bound for sums, and no size: no size of the table is above it
+-- a bound for sums, not a size: neither a key nor a response nonce is longer
 abbrev pub sizeBound : ℕ
 sizeBound = 4096
 

@@ -125,7 +125,7 @@ length-from-more n front (bad r) = refl
 pub record Within (ids : List ℕ) (f : Fields) (i at k p : ℕ) : Type 0 where
   pub index : i ≤ length ids
   pub limit : i ≤ mostConfigurations
-  pub place : at ≤ i * (71 + sizeBound)
+  pub place : at ≤ i * (7 + sizeBound + 64)
   pub keyPlace : k ≤ i * sizeBound
   pub pairPlace : p ≤ i * 32
   pub keys : k ≤ length (f .keys)

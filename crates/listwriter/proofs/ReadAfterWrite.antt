@@ -10,7 +10,6 @@ use lib.Dec.{eqb}
 use lib.ListN.{length, getD, drop, take-append-drop, length-append, length-drop}
 use lib.Seq.{take-at, drop-at, drop-drop, getD-drop}
 use borrow.Author.Tests.{le-leb, eq-eqb, eqb-true}
-use Rattle.wire.specs.Tests.{_and_}
 use Rattle.wire.specs.Bytes.{byteAt, wordAt, wordBytes}
 use Rattle.wire.specs.Search.{anyPasses, among}
 use Rattle.listwriter.proofs.Words.{words-length}

@@ -1,12 +1,17 @@
 -- What only the contracts of functions below the entries cite: a reader of the rules can skip this file.
-use Prim.Native.Nat.{ℕ, _-_, _≤_}
+use Prim.Native.Nat.{ℕ, _+_, _*_, _-_, _≤_}
 use mathlib.Core.Path.{_≡_}
 use mathlib.Core.List.{List}
 use lib.ListN.{length, getD, take, drop}
 use Rattle.wire.specs.Search.{among}
-use Rattle.keylist.specs.Layout.{good, bad, Result}
+use Rattle.algorithms.specs.Stated.{sizeBound}
+use Rattle.keylist.specs.Layout.{good, bad, mostConfigurations, Result}
 use Rattle.listwriter.specs.Writer.{Fields, fields, faultOfGiven}
 use Rattle.listwriter.specs.declared.Written.{Written}
+
+-- a bound for the walk's offsets: sixteen configurations, each with 7 bytes of fields, a key and 64 pair bytes at most
+abbrev pub walkBound : ℕ
+walkBound = mostConfigurations * (7 + sizeBound + 64)
 
 -- the fields from the configuration of an index on, whose key bytes and pair numbers start at these places
 abbrev pub fieldsFrom : Fields → ℕ → ℕ → ℕ → Fields

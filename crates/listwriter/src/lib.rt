@@ -1,7 +1,7 @@
 // List writer (01, "List writer"; 02, A2): key lists from configurations that are given as slices: key ids, KEMs, public key lengths, the
 // key bytes of all, how many pair numbers each has, and the pair numbers of all, KDF and AEAD by turns.
 ghost use mathlib.Core.Path.{_≡_};
-ghost use Prim.Native.Nat.{_+_, _*_, _^_, _≤_, _<_};
+ghost use Prim.Native.Nat.{_+_, _*_, _≤_, _<_};
 ghost use lib.Dec.{leb};
 ghost use lib.ListN.{length, getD};
 ghost use Rattle.wire.specs.Tests.{_and_};
@@ -10,7 +10,7 @@ ghost use Rattle.algorithms.specs.Sizes.{publicKeyLength};
 ghost use Rattle.algorithms.specs.Stated.{sizeBound};
 ghost use Rattle.keylist.specs.Layout.{keyStart, pairBytesHold, refusedFor};
 ghost use Rattle.listwriter.specs.Writer.{fields, faultOfGiven, noneLeft, configurationBytes, encode, writtenIn, writtenTo, wordsBytes};
-ghost use Rattle.listwriter.specs.Helpers.{faultAt, fieldsFrom, lengthWritten, Fitting};
+ghost use Rattle.listwriter.specs.Helpers.{walkBound, faultAt, fieldsFrom, lengthWritten, Fitting};
 use keylist::check::MOST_CONFIGURATIONS;
 use keylist::check::MOST_PAIR_BYTES;
 use keylist::check::field_at_fault;
@@ -92,7 +92,7 @@ fn fault(
 
 // The refusal of a configuration that would start at an offset, for a fault. It asks for an offset as the walk has them, so that no sum wraps.
 fn refused(at: usize, kem: u16, number: u8) -> Written
-    requires { ⌜ at ≤ 2 ^ 17 ⌝ }
+    requires { ⌜ at ≤ walkBound ⌝ }
     ensures { λ r. ⌜ r ≡ Written.Refused (refusedFor at (keyStart at + publicKeyLength kem) number) ⌝ }
 {
     let end = 5 + key_length(kem);
@@ -166,7 +166,7 @@ impl Cursor {
     // The cursor behind a configuration with so many key bytes and pair numbers. It asks for the bounds that a configuration
     // which keeps the layout's rules has, so that no sum wraps.
     fn next(self, key: usize, pair_count: usize) -> Self
-        requires { ⌜ (self .index < 16) × (self .at ≤ 2 ^ 17) × (self .«key_at» ≤ 2 ^ 17) × (self .«pair_at» ≤ 2 ^ 17)
+        requires { ⌜ (self .index < 16) × (self .at ≤ walkBound) × (self .«key_at» ≤ walkBound) × (self .«pair_at» ≤ walkBound)
             × (key ≤ sizeBound) × («pair_count» ≤ 32) ⌝ }
         ensures { λ r. ⌜ (r .index ≡ self .index + 1) × (r .at ≡ self .at + 2 + (5 + key + «pair_count» * 2))
             × (r .«key_at» ≡ self .«key_at» + key) × (r .«pair_at» ≡ self .«pair_at» + «pair_count») ⌝ }

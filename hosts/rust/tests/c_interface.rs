@@ -652,7 +652,7 @@ fn longest_lengths_are_the_librarys() {
     let enc = |kem| {
         taken(13, |length| {
             let (mut head, mut info) = ([0; 2100], [0; 29]);
-            let given = raw::head(7, kem, (1, 1), &bytes[..length], &mut head, &mut info);
+            let given = raw::head(7, kem, (1, 3), &bytes[..length], &mut head, &mut info);
             given.outcome.number
         })
     };
@@ -664,7 +664,7 @@ fn longest_lengths_are_the_librarys() {
                 key_lengths: vec![length],
                 keys: vec![0; length],
                 pair_counts: vec![2],
-                pairs: vec![1, 1],
+                pairs: vec![1, 3],
             };
             raw::write(&fields, &mut [0; 2100]).outcome.number
         })

@@ -5,9 +5,10 @@ use Rattle.wire.specs.Helpers.{overwritten}
 use lib.ListN.{length-take, length-drop, length, getD}
 use Rattle.algorithms.specs.Stated.{sizeBound}
 use Rattle.listwriter.proofs.Writing.{Writing, writing-start, writing-more, writing-end, writing-bounds, writing-room, writing-limit, buffer-length, as-written}
+use Rattle.listwriter.specs.Helpers.{walkBound}
 use Rattle.listwriter.specs.Writer.{fields}
 use mathlib.Core.Path.{ap}
-use Prim.Native.Nat.{ℕ, _+_, _*_, _-_, _^_, _≤_, _<_}
+use Prim.Native.Nat.{ℕ, _+_, _*_, _-_, _≤_, _<_}
 use native.Mathlib.Omega.{arith}
 use borrow.Author.Needs.{needs}
 use Rattle.listwriter.proofs.write_all.Statement.{statement}
@@ -25,9 +26,9 @@ record Numbers (key pairCount at index keyAt pairAt keys pairs room : ℕ) : Typ
   few : index < 16
   keyBound : key ≤ sizeBound
   pairBound : pairCount ≤ 32
-  atBound : at ≤ 2 ^ 17
-  keyAtBound : keyAt ≤ 2 ^ 17
-  pairAtBound : pairAt ≤ 2 ^ 17
+  atBound : at ≤ walkBound
+  keyAtBound : keyAt ≤ walkBound
+  pairAtBound : pairAt ≤ walkBound
   keysThere : keyAt + key ≤ keys
   pairsThere : pairAt + pairCount ≤ pairs
   roomThere : at + 7 + key + pairCount * 2 ≤ room

@@ -20,13 +20,13 @@ returns-4 : tie.Need-returns-4
 returns-4 c =
     let told = c .before .before in
     let long = told .before .before in
-    rw (le-ltb _ _ (long .before .if1 .left), le-ltb _ _ (long .if2 .left), told .shortest .given .1, lt-ltb _ _ (c .if3 .taken))
+    rw (le-ltb _ _ (long .before .if1 .left), le-ltb _ _ (long .if2 .left), told .shortest .given .1, lt-ltb _ (told .shortest .given .0 .0) (c .if3 .taken))
 
 returns-5 : tie.Need-returns-5
 returns-5 c =
     let told = c .before .before in
     let long = told .before .before in
-    rw (le-ltb _ _ (long .before .if1 .left), le-ltb _ _ (long .if2 .left), told .shortest .given .1, le-ltb _ _ (c .if3 .left))
+    rw (le-ltb _ _ (long .before .if1 .left), le-ltb _ _ (long .if2 .left), told .shortest .given .1, le-ltb _ (told .shortest .given .0 .0) (c .if3 .left))
 
 pub refusal-spec : {M : Type 1} → statement M
 refusal-spec = tie.close (tie.spec returns returns-2 (λ c. search needs) (λ c. search needs) returns-3 returns-4 returns-5)

@@ -30,8 +30,9 @@ by-room : (c : tie.Else2)
     ≡ (14 when not (leb (headLength + read .size .given .0 .0) (a .head-room) and leb infoLength (a .info-room)) otherwise 0)
 unfolding headRefusal
 by-room c =
-    let e = size-known (c .before .before .before .before) in
-    rw (e .0, ← c .before .before .is-known-pair .ensures, c .before .if1 .left, e .1, eq-eqb _ _ (c .if2 .left))
+    let read = c .before .before .before .before in
+    let e = size-known read in
+    rw (e .0, ← c .before .before .is-known-pair .ensures, c .before .if1 .left, e .1, eq-eqb _ (read .size .given .0 .0) (c .if2 .left))
 
 returns : tie.Need-returns
 unfolding headRefusal
@@ -46,8 +47,9 @@ returns-2 c = rw (size-known (c .before .before .before) .0, ← c .before .is-k
 returns-3 : tie.Need-returns-3
 unfolding headRefusal
 returns-3 c =
-    let e = size-known (c .before .before .before .before) in
-    rw (e .0, ← c .before .before .is-known-pair .ensures, c .before .if1 .left, e .1, ne-eqb _ _ (c .if2 .taken))
+    let read = c .before .before .before .before in
+    let e = size-known read in
+    rw (e .0, ← c .before .before .is-known-pair .ensures, c .before .if1 .left, e .1, ne-eqb _ (read .size .given .0 .0) (c .if2 .taken))
 
 returns-4 : tie.Need-returns-4
 returns-4 c = rw (by-room (c .before), lt-leb _ _ (c .if3 .taken))

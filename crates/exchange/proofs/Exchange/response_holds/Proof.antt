@@ -51,22 +51,25 @@ returns-2 c =
 
 returns-3 : tie.Need-returns-3
 returns-3 c =
-    let e = enc-known (c .before .before .before .before .before .before) in
-    rw (e .0, e .1, ne-eqb _ _ (c .if1 .taken))
+    let found = c .before .before .before .before .before .before in
+    let e = enc-known found in
+    rw (e .0, e .1, ne-eqb _ (found .enc-length2 .given .0 .0) (c .if1 .taken))
 
 returns-4 : tie.Need-returns-4
 returns-4 c =
     let nonce = c .before .before .before in
-    let e = enc-known (nonce .before .before .before .before) in
+    let found = nonce .before .before .before .before in
+    let e = enc-known found in
     let n = nonce-known nonce in
-    rw (e .0, e .1, eq-eqb _ _ (c .before .if1 .left), n .0, n .1, ne-eqb _ _ (c .if2 .taken))
+    rw (e .0, e .1, eq-eqb _ (found .enc-length2 .given .0 .0) (c .before .if1 .left), n .0, n .1, ne-eqb _ _ (c .if2 .taken))
 
 returns-5 : tie.Need-returns-5
 returns-5 c =
     let nonce = c .before .before .before in
-    let e = enc-known (nonce .before .before .before .before) in
+    let found = nonce .before .before .before .before in
+    let e = enc-known found in
     let n = nonce-known nonce in
-    rw (e .0, e .1, eq-eqb _ _ (c .before .if1 .left), n .0, n .1, eq-eqb _ _ (c .if2 .left))
+    rw (e .0, e .1, eq-eqb _ (found .enc-length2 .given .0 .0) (c .before .if1 .left), n .0, n .1, eq-eqb _ _ (c .if2 .left))
 
 pub response-holds-spec : {M : Type 1} → statement M
 response-holds-spec = tie.close (tie.spec (λ c κs. search needs) (λ c. search needs) enum-told returns (λ c κs. search needs)
