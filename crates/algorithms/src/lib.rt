@@ -1,7 +1,7 @@
 // The algorithms of RFC 9180 that 01 knows: one constant table, and lookups by number that read it alone.
 ghost use mathlib.Core.Path.{_≡_};
 ghost use Prim.Native.Nat.{max};
-ghost use Rattle.algorithms.specs.Table.{isRow, rowIn, rowOf, kemKind, kdfKind, aeadKind};
+ghost use Rattle.algorithms.specs.Table.{isRow, rowOf, kemKind, kdfKind, aeadKind};
 ghost use Rattle.algorithms.specs.Sizes.{isKnown, knownKem, knownKdf, knownAead, knownPair, encLength, publicKeyLength, shortestRequest, keyLength, responseNonceLength};
 ghost use Rattle.algorithms.specs.Answers.{sizeOf, secretLength};
 use wire::texts::HEAD_LENGTH;
@@ -141,13 +141,7 @@ const TABLE: [Row; ROWS] = [
 fn row_of(kind: u8, number: u16) -> Row
     ensures { λ r. ⌜ r ≡ rowOf kind number ⌝ }
 {
-    row_in(TABLE, kind, number)
-}
-
-// The same in any table.
-fn row_in(table: [Row; ROWS], kind: u8, number: u16) -> Row
-    ensures { λ r. ⌜ r ≡ rowIn table kind number ⌝ }
-{
+    let table = TABLE;
     let mut at = 0;
     while at < ROWS {
         let row = table[at];
