@@ -102,8 +102,10 @@ unfolding knownKem knownKdf knownAead encLength publicKeyLength keyLength rowOf
 read-from-the-table =
     record {
       kemSizes = λ number. (refl, refl, refl);
+      shortestRequests = λ number. refl;
       kdfKnown = λ number. refl;
       aeadSizes = λ number. (refl, refl);
+      responseNonces = λ number. refl;
       found = λ before behind row none. found-first before behind row none;
       unknown = λ rows kind number none. not-found rows kind number none;
       nencChanged = nenc-changed;

@@ -1,14 +1,15 @@
 -- What 01's table says, as one computed statement about the definitions; which numbers are known, over every number; that a lookup
 -- reads the table alone, over every table; and the facts about sizes that other crates use, over every number.
-use Prim.Native.Nat.{ℕ, _≤_, _<_}
+use Prim.Native.Nat.{ℕ, _+_, max, _≤_, _<_}
 use mathlib.Core.Path.{_≡_}
 use mathlib.Core.Bool.{true, false}
 use mathlib.Core.List.{List, [], _∷_, _++_, map}
+use Rattle.wire.specs.Texts.{headLength}
 use Rattle.wire.specs.Tests.{pick}
 use Rattle.wire.specs.Search.{among, anyPasses}
 use Rattle.algorithms.specs.declared.Row.{Row}
 use Rattle.algorithms.specs.Table.{kemKind, kdfKind, aeadKind, tableRow, table, isRow, rowIn, noRow}
-use Rattle.algorithms.specs.Sizes.{isKnown, knownKem, knownKdf, knownAead, encLength, publicKeyLength, keyLength, shortestRequest, responseNonceLength}
+use Rattle.algorithms.specs.Sizes.{tagLength, nonceLength, isKnown, knownKem, knownKdf, knownAead, encLength, publicKeyLength, keyLength, shortestRequest, responseNonceLength}
 
 -- 01's KEMs, KDFs and AEADs, in its order
 abbrev pub kems : List ℕ
@@ -45,8 +46,10 @@ withNenc kem nenc row = pick (isRow kemKind kem row) (tableRow (row .kind) (row 
 pub record ReadFromTheTable : Type 0 where
   pub kemSizes : (number : ℕ) → let row = rowIn table kemKind number in
       (knownKem number ≡ isKnown row) × (encLength number ≡ row .enc) × (publicKeyLength number ≡ row .«public_key»)
+  pub shortestRequests : (number : ℕ) → shortestRequest number ≡ headLength + rowIn table kemKind number .enc + tagLength
   pub kdfKnown : (number : ℕ) → knownKdf number ≡ isKnown (rowIn table kdfKind number)
   pub aeadSizes : (number : ℕ) → let row = rowIn table aeadKind number in (knownAead number ≡ isKnown row) × (keyLength number ≡ row .key)
+  pub responseNonces : (number : ℕ) → responseNonceLength number ≡ max nonceLength (rowIn table aeadKind number .key)
   pub found : (before behind : List Row) (row : Row) → anyPasses (isRow (row .kind) (row .number)) before ≡ false
       → rowIn (before ++ row ∷ behind) (row .kind) (row .number) ≡ row
   pub unknown : (rows : List Row) (kind number : ℕ) → anyPasses (isRow kind number) rows ≡ false → rowIn rows kind number ≡ noRow

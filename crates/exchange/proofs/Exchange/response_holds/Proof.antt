@@ -2,12 +2,15 @@
 -- Assumes nothing.
 use mathlib.Core.Bool.{true, false}
 use mathlib.Core.Path.{_≡_, refl, sym, _∙_}
-use lib.Dec.{eqb}
+use lib.Dec.{eqb, leb}
+use Rattle.wire.specs.Tests.{_and_}
+use Rattle.wire.specs.Texts.{longestPlain}
 use borrow.Author.Tests.{eq-eqb, ne-eqb}
 use Rattle.wire.proofs.Booleans.{and-false}
 use Rattle.algorithms.specs.Sizes.{knownKem, knownAead, encLength, responseNonceLength}
 use Rattle.algorithms.proofs.Answers.{known, unknown}
 use borrow.Author.Needs.{needs}
+use Rattle.exchange.specs.Exchange.{responseHolds}
 use Rattle.exchange.proofs.Exchange.response_holds.Statement.{statement}
 use Rattle.exchange.proofs.Exchange.response_holds.Tie as tie
 
@@ -55,21 +58,23 @@ returns-3 c =
     let e = enc-known found in
     rw (e .0, e .1, ne-eqb _ (found .enc-length2 .given .0 .0) (c .if1 .taken))
 
-returns-4 : tie.Need-returns-4
-returns-4 c =
-    let nonce = c .before .before .before in
+-- enc is as long as the KEM says: what is left to decide are the nonce and the plain response
+by-nonce : (c : tie.Else1)
+    → let nonce = c .before .before in
+    let a = nonce .before .before .before .before .before .before .before .args in
+    responseHolds (a .enc) (a .nonce) (a .plain) (a .self) ≡ (eqb (a .nonce) (nonce .nonce-length .given .0 .0) and leb (a .plain) longestPlain)
+by-nonce c =
+    let nonce = c .before .before in
     let found = nonce .before .before .before .before in
     let e = enc-known found in
     let n = nonce-known nonce in
-    rw (e .0, e .1, eq-eqb _ (found .enc-length2 .given .0 .0) (c .before .if1 .left), n .0, n .1, ne-eqb _ _ (c .if2 .taken))
+    rw (e .0, e .1, eq-eqb _ (found .enc-length2 .given .0 .0) (c .if1 .left), n .0, n .1)
+
+returns-4 : tie.Need-returns-4
+returns-4 c = rw (by-nonce (c .before), ne-eqb _ (c .before .before .before .nonce-length .given .0 .0) (c .if2 .taken))
 
 returns-5 : tie.Need-returns-5
-returns-5 c =
-    let nonce = c .before .before .before in
-    let found = nonce .before .before .before .before in
-    let e = enc-known found in
-    let n = nonce-known nonce in
-    rw (e .0, e .1, eq-eqb _ (found .enc-length2 .given .0 .0) (c .before .if1 .left), n .0, n .1, eq-eqb _ _ (c .if2 .left))
+returns-5 c = rw (by-nonce (c .before), eq-eqb _ (c .before .before .before .nonce-length .given .0 .0) (c .if2 .left))
 
 pub response-holds-spec : {M : Type 1} → statement M
 response-holds-spec = tie.close (tie.spec (λ c κs. search needs) (λ c. search needs) enum-told returns (λ c κs. search needs)
