@@ -1,4 +1,6 @@
 // The algorithms of RFC 9180 that 01 knows: one constant table, and lookups by number that read it alone.
+#![tactic(auto)]
+
 ghost use Rattle.std.specs.Prelude.{◌≡◌, max};
 ghost use Rattle.algorithms.specs.Table.{is_row, row_of, kem_kind, kdf_kind, aead_kind};
 ghost use Rattle.algorithms.specs.Sizes.{is_known, known_kem, known_kdf, known_aead, known_pair, enc_length, public_key_length, shortest_request, key_length, response_nonce_length};
@@ -7,7 +9,7 @@ ghost use Rattle.algorithms.specs.Answers.{size_of, secret_length};
 use wire::texts::HEAD_LENGTH;
 
 // A row of the table. A KEM has Nenc and Npk, an AEAD has Nk; what an algorithm does not have is 0.
-#[derive(Drop)]
+#[derive(Clone, Copy)]
 pub struct Row {
     pub kind: u8,
     pub number: u16,
@@ -167,19 +169,19 @@ fn larger(a: usize, b: usize) -> usize
 }
 
 // A size in bytes, or that the algorithm's number is unknown.
-#[derive(Drop)]
+#[derive(Clone, Copy)]
 pub enum Size {
     Bytes(usize),
     Unknown,
 }
 
-#[derive(Drop)]
+#[derive(Clone, Copy)]
 pub struct Kem(pub u16);
 
-#[derive(Drop)]
+#[derive(Clone, Copy)]
 pub struct Kdf(pub u16);
 
-#[derive(Drop)]
+#[derive(Clone, Copy)]
 pub struct Aead(pub u16);
 
 impl Kem {

@@ -16,7 +16,7 @@ use integers::Integer;
 
 // Where a field section lies, and how many fields it has.
 #[repr(C)]
-#[derive(Drop)]
+#[derive(Clone, Copy)]
 pub struct Section {
     pub lies: Span,
     pub fields: usize,
@@ -24,7 +24,7 @@ pub struct Section {
 
 // Where header section, content, trailer section and padding lie.
 #[repr(C)]
-#[derive(Drop)]
+#[derive(Clone, Copy)]
 pub struct Layout {
     pub headers: Section,
     pub content: Span,
@@ -33,14 +33,14 @@ pub struct Layout {
 }
 
 // A section, or the place that is wrong.
-#[derive(Drop)]
+#[derive(Clone, Copy)]
 pub enum SectionAt {
     Lies(Section),
     Wrong(usize),
 }
 
 // A layout, or the place that is wrong.
-#[derive(Drop)]
+#[derive(Clone, Copy)]
 pub enum LayoutAt {
     Lies(Layout),
     Wrong(usize),

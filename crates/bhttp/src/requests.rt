@@ -13,7 +13,7 @@ use wire::refusal::Refusal;
 
 // Where the control data lie.
 #[repr(C)]
-#[derive(Drop)]
+#[derive(Clone, Copy)]
 pub struct Control {
     pub method: Span,
     pub scheme: Span,
@@ -22,7 +22,7 @@ pub struct Control {
 }
 
 // Control data, or the place that is wrong.
-#[derive(Drop)]
+#[derive(Clone, Copy)]
 pub enum ControlAt {
     Lies(Control),
     Wrong(usize),
@@ -30,7 +30,7 @@ pub enum ControlAt {
 
 // Where the parts of a request lie.
 #[repr(C)]
-#[derive(Drop)]
+#[derive(Clone, Copy)]
 pub struct Request {
     pub control: Control,
     pub layout: Layout,
@@ -54,14 +54,14 @@ pub const TRAILERS: u8 = 6;
 pub const PADDING: u8 = 7;
 
 // Where the parts lie, or 23 with its place.
-#[derive(Drop)]
+#[derive(Clone, Copy)]
 pub enum Checked {
     Good(Request),
     Refused(Refusal),
 }
 
 // Where one part lies, or 23 with its place.
-#[derive(Drop)]
+#[derive(Clone, Copy)]
 pub enum PartPlace {
     Found(Span),
     Refused(Refusal),

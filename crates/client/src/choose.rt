@@ -17,7 +17,7 @@ use wire::refusal::Refusal;
 use wire::search::has_word;
 
 // What was chosen, and where the public key starts and ends in the list.
-#[derive(Drop)]
+#[derive(Clone, Copy)]
 pub struct Choice {
     pub key_id: KeyId,
     pub kem: u16,
@@ -27,14 +27,14 @@ pub struct Choice {
     pub key_end: usize,
 }
 
-#[derive(Drop)]
+#[derive(Clone, Copy)]
 pub enum Chosen {
     Usable(Choice),
     Refused(Refusal),
 }
 
 // The first usable pair of a configuration, KDF and AEAD.
-#[derive(Drop)]
+#[derive(Clone, Copy)]
 enum PairFound {
     Pair(u16, u16),
     Nothing,

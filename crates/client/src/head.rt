@@ -9,7 +9,7 @@ use wire::refusal::Refusal;
 use wire::texts;
 
 // The length of the head that was written, or the refusal.
-#[derive(Drop)]
+#[derive(Clone, Copy)]
 pub enum HeadAnswer {
     Length(usize),
     Refused(Refusal),

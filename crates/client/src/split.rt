@@ -8,7 +8,7 @@ use algorithms::{Aead, Size};
 use wire::refusal::Refusal;
 
 // Where the nonce ends and the ciphertext starts, or the refusal.
-#[derive(Drop)]
+#[derive(Clone, Copy)]
 pub enum Parts {
     NonceEnd(usize),
     Refused(Refusal),

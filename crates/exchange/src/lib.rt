@@ -1,5 +1,7 @@
 // An exchange (01, "An exchange, step by step"): a value that moves from asked to opened to closed. Its methods take it and hand it
 // back in its next state, with the answer.
+#![tactic(auto)]
+
 ghost use Rattle.std.specs.Prelude.{◌≡◌, true, eqb};
 ghost use Rattle.exchange.specs.Exchange.{free, is_free, asked, left_in, has_opened_length, response_holds};
 ghost use Rattle.exchange.specs.Steps.{step, bare, when_asked, when_opened, leaves, is_allowed, lengths_hold, refusal_by, accepted, answer, buffer};
@@ -13,12 +15,12 @@ use wire::refusal::Refusal;
 
 // 01's ticket: a number of its own kind. Tickets are 1, 2, 3 and on; 0 is never given.
 #[repr(C)]
-#[derive(Drop)]
+#[derive(Clone, Copy)]
 pub struct Ticket(pub u64);
 
 // The state of an exchange, as one of the numbers below.
 #[repr(C)]
-#[derive(Drop)]
+#[derive(Clone, Copy)]
 pub struct Phase(pub u8);
 
 impl Phase {
@@ -31,7 +33,7 @@ impl Phase {
 
 // A pending exchange, or a free place: the ticket is 0 there.
 #[repr(C)]
-#[derive(Drop)]
+#[derive(Clone, Copy)]
 pub struct Exchange {
     pub ticket: Ticket,
     pub ciphertext_length: u32,
@@ -52,7 +54,7 @@ pub const OK: u16 = 200;
 
 // The kind of a call on a ticket: open result, with n where the host could open the request; respond, with the length of the
 // plain response; abandon.
-#[derive(Drop)]
+#[derive(Clone, Copy)]
 pub enum Move {
     Open(u64),
     Fail,
@@ -99,14 +101,14 @@ impl Move {
 }
 
 // A response to be sealed: the outer status and the length of the encapsulated response.
-#[derive(Drop)]
+#[derive(Clone, Copy)]
 pub struct Sealed {
     pub status: u16,
     pub length: u64,
 }
 
 // The answer of a call on a ticket. A failed opening has the status of the unprotected reply.
-#[derive(Drop)]
+#[derive(Clone, Copy)]
 pub enum StepAnswer {
     Opened,
     Failed(u16),
@@ -116,7 +118,7 @@ pub enum StepAnswer {
 }
 
 // The exchange in its next state, with the answer.
-#[derive(Drop)]
+#[derive(Clone, Copy)]
 pub struct Moved {
     pub exchange: Exchange,
     pub answer: StepAnswer,

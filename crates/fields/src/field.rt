@@ -13,21 +13,21 @@ use crate::parts::{Part, Span, judge, prefixed};
 
 // Where name and value of a field lie.
 #[repr(C)]
-#[derive(Drop)]
+#[derive(Clone, Copy)]
 pub struct Field {
     pub name: Span,
     pub value: Span,
 }
 
 // A field, or the place that is wrong.
-#[derive(Drop)]
+#[derive(Clone, Copy)]
 pub enum FieldAt {
     Lies(Field),
     Wrong(usize),
 }
 
 // How many fields there are, or the place that is wrong.
-#[derive(Drop)]
+#[derive(Clone, Copy)]
 pub enum Counted {
     Fields(usize),
     Wrong(usize),

@@ -7,14 +7,14 @@ use integers::Integer;
 
 // Where a part starts and ends.
 #[repr(C)]
-#[derive(Drop)]
+#[derive(Clone, Copy)]
 pub struct Span {
     pub start: usize,
     pub end: usize,
 }
 
 // Where a part lies, or the place that is wrong.
-#[derive(Drop)]
+#[derive(Clone, Copy)]
 pub enum Part {
     Lies(Span),
     Wrong(usize),

@@ -5,7 +5,7 @@ ghost use Rattle.fields.specs.Reader.{next_field, name_in, value_in, place_behin
 
 use crate::cursor;
 
-#[derive(Drop)]
+#[derive(Clone, Copy)]
 pub struct Reader<'a> {
     pub message: &'a [u8],
     pub at: usize,

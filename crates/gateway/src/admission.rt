@@ -11,7 +11,7 @@ use wire::refusal::Refusal;
 use wire::texts;
 
 // An admitted request: its ticket, its key, its pair, and where its parts start and end.
-#[derive(Drop)]
+#[derive(Clone, Copy)]
 pub struct Admission {
     pub ticket: Ticket,
     pub key_id: KeyId,
@@ -25,7 +25,7 @@ pub struct Admission {
 
 // A refusal of admit: its number, the status of the unprotected answer, and whether that is an ohttp-key problem
 // (RFC 9458, 5.3).
-#[derive(Drop)]
+#[derive(Clone, Copy)]
 pub struct AdmitRefusal {
     pub number: u8,
     pub status: u16,

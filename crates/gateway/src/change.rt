@@ -22,7 +22,7 @@ use wire::bytes::overwrite;
 use wire::refusal::Refusal;
 
 // The last ticket, a key with its place, and an exchange with its place in the table. Where nothing changes they are what is there.
-#[derive(Drop)]
+#[derive(Clone, Copy)]
 pub struct Change {
     pub last_ticket: Ticket,
     pub key_place: usize,
@@ -32,7 +32,7 @@ pub struct Change {
 }
 
 // What retire leaves of a key, with the answer.
-#[derive(Drop)]
+#[derive(Clone, Copy)]
 pub struct KeyRetired {
     pub key: KeyState,
     pub answer: RetireAnswer,

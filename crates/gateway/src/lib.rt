@@ -1,5 +1,7 @@
 // The gateway (01, "What the box does"): setup and the six calls. Each call takes the gateway and answers what changes of it, with its
 // own answer; a refusal changes nothing. Every entry has an answer for every gateway and every argument.
+#![tactic(auto)]
+
 ghost use Rattle.std.specs.Prelude.{◌≡◌, []};
 ghost use Rattle.exchange.specs.Steps.{step};
 ghost use Rattle.keys.specs.Stored.{stored_keys};
@@ -30,7 +32,7 @@ pub const MOST_USES: u64 = 1000000000;
 
 // The gateway's state. A host may hold it in its own memory, and must not write it.
 #[repr(C)]
-#[derive(Drop)]
+#[derive(Clone, Copy)]
 pub struct Gateway {
     pub last_ticket: Ticket,
     pub cap: u32,
@@ -39,26 +41,26 @@ pub struct Gateway {
 }
 
 // The number of keys, or the refusal.
-#[derive(Drop)]
+#[derive(Clone, Copy)]
 pub enum SetupAnswer {
     Ready(usize),
     Refused(Refusal),
 }
 
-#[derive(Drop)]
+#[derive(Clone, Copy)]
 pub enum AdmitAnswer {
     Admitted(Admission),
     Refused(AdmitRefusal),
 }
 
-#[derive(Drop)]
+#[derive(Clone, Copy)]
 pub enum RetireAnswer {
     Retired,
     Refused(Refusal),
 }
 
 // Last ticket, number pending, and the keys in list order, first in `keys`.
-#[derive(Drop)]
+#[derive(Clone, Copy)]
 pub struct Report {
     pub last_ticket: Ticket,
     pub pending: usize,
@@ -67,26 +69,26 @@ pub struct Report {
 }
 
 // What a call changes, with the answer.
-#[derive(Drop)]
+#[derive(Clone, Copy)]
 pub struct AdmitChange {
     pub change: Change,
     pub answer: AdmitAnswer,
 }
 
-#[derive(Drop)]
+#[derive(Clone, Copy)]
 pub struct RetireChange {
     pub change: Change,
     pub answer: RetireAnswer,
 }
 
-#[derive(Drop)]
+#[derive(Clone, Copy)]
 pub struct StepChange {
     pub change: Change,
     pub answer: StepAnswer,
 }
 
 // The gateway after setup, with the answer.
-#[derive(Drop)]
+#[derive(Clone, Copy)]
 pub struct AfterSetup {
     pub gateway: Gateway,
     pub answer: SetupAnswer,

@@ -13,14 +13,14 @@ pub const TABLE_SIZE: usize = 128;
 
 // How a ticket and a free place are searched (A10). The fast engine, which hosts use, looks first at the home of a ticket, the place
 // `ticket % 128`; the plain one walks over the table.
-#[derive(Drop)]
+#[derive(Clone, Copy)]
 pub enum Engine {
     Fast,
     Plain,
 }
 
 // A place of the table and the exchange there.
-#[derive(Drop)]
+#[derive(Clone, Copy)]
 pub(crate) struct Found {
     pub place: usize,
     pub exchange: Exchange,

@@ -4,7 +4,7 @@ ghost use Rattle.host.specs.Sizes.{sizes};
 
 // The number of bytes of each struct: the gateway, the outcome, and the result of each call by its name.
 #[repr(C)]
-#[derive(Drop)]
+#[derive(Clone, Copy)]
 pub struct Sizes {
     pub gateway: usize,
     pub outcome: usize,

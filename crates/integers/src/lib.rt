@@ -1,9 +1,11 @@
 // RFC 9000's integers (section 16): 1, 2, 4 or 8 bytes, read at an offset of a slice.
+#![tactic(auto)]
+
 ghost use Rattle.std.specs.Prelude.{◌≡◌};
 ghost use Rattle.integers.specs.Integers.{size_of, integer_at};
 
 // The value and where the integer ends, or that it does not lie whole in the bytes.
-#[derive(Drop)]
+#[derive(Clone, Copy)]
 pub enum Integer {
     Whole(u64, usize),
     Cut,

@@ -1,4 +1,6 @@
 // The gateway's keys: made of a key list, found by id, each with its pairs, its use count and its retirement.
+#![tactic(auto)]
+
 ghost use Rattle.std.specs.Prelude.{◌≡◌, ◌≤◌, ◌<◌, ◌+◌, ◌*◌, true, [], ltb, length};
 ghost use Rattle.keylist.specs.Before.{layout_holds};
 ghost use Rattle.keylist.specs.Layout.{parse, configuration_at, pairs_at, is_pair, most_configurations};
@@ -19,7 +21,7 @@ pub const MOST_PAIRS: usize = MOST_PAIR_BYTES / 4;
 
 // A key. Its pairs stand first in `pairs`; it is live where `retired` is 0.
 #[repr(C)]
-#[derive(Drop)]
+#[derive(Clone, Copy)]
 pub struct KeyState {
     pub count: u32,
     pub kem: u16,
@@ -31,21 +33,21 @@ pub struct KeyState {
 
 // The keys in list order, first in `list`.
 #[repr(C)]
-#[derive(Drop)]
+#[derive(Clone, Copy)]
 pub struct Keys {
     pub list: [KeyState; MOST_CONFIGURATIONS],
     pub count: u8,
 }
 
 // The keys of a list, with what its check says; no keys where the list is refused.
-#[derive(Drop)]
+#[derive(Clone, Copy)]
 pub struct KeysRead {
     pub keys: Keys,
     pub checked: Checked,
 }
 
 // Where a key was found: its place, the first one where it was not; and whether it is there.
-#[derive(Drop)]
+#[derive(Clone, Copy)]
 pub struct KeyPlace {
     pub place: usize,
     pub there: bool,
@@ -53,7 +55,7 @@ pub struct KeyPlace {
 
 // A key, as report shows it.
 #[repr(C)]
-#[derive(Drop)]
+#[derive(Clone, Copy)]
 pub struct KeyReport {
     pub id: KeyId,
     pub count: u32,

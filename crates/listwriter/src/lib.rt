@@ -1,5 +1,7 @@
 // List writer (01, "List writer"; 02, A2): key lists from configurations that are given as slices: key ids, KEMs, public key lengths, the
 // key bytes of all, how many pair numbers each has, and the pair numbers of all, KDF and AEAD by turns.
+#![tactic(auto)]
+
 ghost use Rattle.std.specs.Prelude.{◌≡◌, ◌+◌, ◌*◌, ◌≤◌, ◌<◌, leb, length, get_or};
 ghost use Rattle.wire.specs.Tests.{◌and◌};
 ghost use Rattle.wire.specs.Helpers.{overwritten};
@@ -17,7 +19,7 @@ use wire::refusal::Refusal;
 use wire::search::has_byte;
 
 // The length of the list that was written, or the refusal.
-#[derive(Drop)]
+#[derive(Clone, Copy)]
 pub enum Written {
     Length(usize),
     Refused(Refusal),
@@ -141,7 +143,7 @@ fn write_configuration(buffer: &mut [u8], at: usize, id: u8, kem: u16, key: &[u8
 
 // Where the walk over the fields stands: the next configuration's index, its offset in the list, and where its key bytes and
 // its pair numbers start.
-#[derive(Drop)]
+#[derive(Clone, Copy)]
 struct Cursor {
     index: usize,
     at: usize,

@@ -1,4 +1,6 @@
 // A request (01, "Request"): its fields, where its parts lie, and the refusals that it decides alone.
+#![tactic(auto)]
+
 ghost use Rattle.std.specs.Prelude.{◌≡◌, replicate};
 ghost use Rattle.wire.specs.Helpers.{overwritten};
 ghost use Rattle.wire.specs.Texts.{head_length, info_bytes};
@@ -14,7 +16,7 @@ use wire::texts;
 pub const LONGEST: usize = 65536;
 
 // The fields of a request. Its enc ends, and its ciphertext starts, at `enc_end`.
-#[derive(Drop)]
+#[derive(Clone, Copy)]
 pub struct Request {
     pub key_id: KeyId,
     pub kem: u16,
@@ -25,7 +27,7 @@ pub struct Request {
 }
 
 // The refusal number, and where it is 0 the fields.
-#[derive(Drop)]
+#[derive(Clone, Copy)]
 pub struct Parsed {
     pub refusal: u8,
     pub request: Request,

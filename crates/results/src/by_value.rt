@@ -17,13 +17,13 @@ use gateway::table::Engine;
 use keylist::KeyId;
 
 // What a call changes of the gateway, with the result.
-#[derive(Drop)]
+#[derive(Clone, Copy)]
 pub struct StepChanged {
     pub change: Change,
     pub result: NumberResult,
 }
 
-#[derive(Drop)]
+#[derive(Clone, Copy)]
 pub struct RetireChanged {
     pub change: Change,
     pub result: Outcome,

@@ -20,7 +20,7 @@ const EXPORTER_CONTEXT_LENGTH: usize = 22;
 
 // What was chosen, and where the public key starts and ends in the list.
 #[repr(C)]
-#[derive(Drop)]
+#[derive(Clone, Copy)]
 pub struct ChooseResult {
     pub outcome: Outcome,
     pub key_start: usize,

@@ -21,7 +21,7 @@ use wire::bytes::byte_at;
 
 // An admission: its ticket, where its parts start and end in the request, its pair and its key.
 #[repr(C)]
-#[derive(Drop)]
+#[derive(Clone, Copy)]
 pub struct AdmitResult {
     pub outcome: Outcome,
     pub ticket: u64,
@@ -36,7 +36,7 @@ pub struct AdmitResult {
 
 // Last ticket, number pending, and the keys in list order, first in `keys`.
 #[repr(C)]
-#[derive(Drop)]
+#[derive(Clone, Copy)]
 pub struct ReportResult {
     pub outcome: Outcome,
     pub last_ticket: u64,
@@ -46,34 +46,34 @@ pub struct ReportResult {
 }
 
 // The gateway that setup made, with the result.
-#[derive(Drop)]
+#[derive(Clone, Copy)]
 pub struct SetupDone {
     pub gateway: Gateway,
     pub result: NumberResult,
 }
 
 // What admit changes of the gateway, with the result.
-#[derive(Drop)]
+#[derive(Clone, Copy)]
 pub struct AdmitDone {
     pub change: Change,
     pub result: AdmitResult,
 }
 
 // What a call on a ticket leaves of the exchange, with the result.
-#[derive(Drop)]
+#[derive(Clone, Copy)]
 pub struct StepDone {
     pub exchange: Exchange,
     pub result: NumberResult,
 }
 
-#[derive(Drop)]
+#[derive(Clone, Copy)]
 pub struct AbandonDone {
     pub exchange: Exchange,
     pub result: Outcome,
 }
 
 // What retire leaves of the key, with the result.
-#[derive(Drop)]
+#[derive(Clone, Copy)]
 pub struct RetireDone {
     pub key: KeyState,
     pub result: Outcome,

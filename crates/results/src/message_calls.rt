@@ -11,7 +11,7 @@ use wire::refusal::Refusal;
 
 // Where the parts lie; all 0 on refusal.
 #[repr(C)]
-#[derive(Drop)]
+#[derive(Clone, Copy)]
 pub struct RequestResult {
     pub outcome: Outcome,
     pub request: Request,
@@ -19,7 +19,7 @@ pub struct RequestResult {
 
 // Where a field lies, and the place behind it; all 0 on refusal.
 #[repr(C)]
-#[derive(Drop)]
+#[derive(Clone, Copy)]
 pub struct FieldResult {
     pub outcome: Outcome,
     pub field: Field,

@@ -7,7 +7,7 @@ use wire::refusal::Refusal;
 // The refusal number, 0 where the call is accepted; whether the refusal has a place, and its place; the HTTP status to send, 0 where
 // nothing is sent; the problem type of an unprotected answer.
 #[repr(C)]
-#[derive(Drop)]
+#[derive(Clone, Copy)]
 pub struct Outcome {
     pub number: u8,
     pub has_place: bool,
@@ -51,7 +51,7 @@ impl Outcome {
 
 // An outcome and a number, 0 on refusal.
 #[repr(C)]
-#[derive(Drop)]
+#[derive(Clone, Copy)]
 pub struct NumberResult {
     pub outcome: Outcome,
     pub number: u64,
@@ -82,7 +82,7 @@ impl NumberResult {
 
 // An outcome and two numbers, 0 on refusal.
 #[repr(C)]
-#[derive(Drop)]
+#[derive(Clone, Copy)]
 pub struct TwoNumbersResult {
     pub outcome: Outcome,
     pub first: usize,

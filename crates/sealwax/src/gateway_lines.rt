@@ -20,7 +20,7 @@ use results::outcome::NumberResult;
 use results::{by_value, gateway_calls};
 
 // A call, but for its bytes, which stand beside it: setup's list, admit's request, respond's enc and nonce.
-#[derive(Drop)]
+#[derive(Clone, Copy)]
 pub(crate) enum Call {
     // The cap.
     Setup(u64),
@@ -82,7 +82,7 @@ pub(crate) fn engine_of(number: u64) -> Engine {
 }
 
 // The gateway after a line, and the place behind the answer.
-#[derive(Drop)]
+#[derive(Clone, Copy)]
 pub(crate) struct Answered {
     pub gateway: Gateway,
     pub end: usize,

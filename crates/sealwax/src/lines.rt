@@ -141,7 +141,7 @@ fn take_one_of(line: &[u8], at: usize, one: u64, other: u64) -> Word {
 }
 
 // The name of a call, and what its words say: the numbers in order, and where the bytes lie in order. The next word starts at `next`.
-#[derive(Drop)]
+#[derive(Clone, Copy)]
 pub(crate) struct Line {
     pub name: u64,
     pub next: usize,

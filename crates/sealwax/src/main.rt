@@ -1,4 +1,6 @@
 // Replays calls: reads them from standard input, one to a line, and writes a line for each to standard output, in constant memory.
+#![tactic(auto)]
+
 mod client_lines;
 mod gateway_lines;
 mod input;

@@ -7,7 +7,7 @@ use wire::bytes::{byte_at, word_at};
 pub(crate) const NO_WORD: usize = usize::MAX;
 
 // A word: the number that it says, where in the line the bytes lie that it says, and where the next word starts.
-#[derive(Drop)]
+#[derive(Clone, Copy)]
 pub(crate) struct Word {
     pub value: u64,
     pub start: usize,

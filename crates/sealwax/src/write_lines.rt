@@ -24,7 +24,7 @@ type Ids = [u8; MOST_GIVEN];
 // The configurations so far. Their keys stand in the line itself, from where its configurations start up to `keys_end`: a key is moved down there, since
 // an id and a KEM stand in front of it. Of the numbers the first MOST_GIVEN are their KEMs, and the others up to `pairs_end` their pairs. The next word
 // starts at `next`.
-#[derive(Drop)]
+#[derive(Clone, Copy)]
 struct Given {
     count: usize,
     keys_end: usize,

@@ -1,0 +1,19 @@
+-- `wire::bytes::overwrite` meets its contract. The loop's invariant: so many bytes have been copied to the offset, and the rest is as it was.
+-- The measure is how many are left.
+-- Assumes nothing.
+use lib.ListN.{length-set, length}
+use native.Mathlib.Numerals.{add-one}
+use Rattle.wire.proofs.Writes.{overwritten_beyond}
+use lib.Seq.{paste, paste-zero, paste-suc}
+use mathlib.Core.Path.{◌≡◌, refl, sym}
+use Prim.Native.Nat.{◌-◌, ◌≤◌}
+use native.Mathlib.Omega.{arith}
+use borrow.Author.Rules.{rules}
+use Rattle.wire.proofs.bytes.overwrite.Given as goal
+
+abbrev pub invariant-loop-done : goal.invariant-loop-done
+invariant-loop-done l =
+    (l.done ≤ l.count) × (length l.buffer ≡ length l.initial.buffer) × (l.buffer ≡ paste l.initial.buffer l.at l.bytes l.done)
+
+abbrev pub decreases-loop-done : goal.decreases-loop-done
+decreases-loop-done l = l.count - l.done
