@@ -1,0 +1,9 @@
+-- `algorithms::Aead::is_known` meets its contract.
+-- Assumes nothing.
+use Rattle.algorithms.specs.Sizes.{known_aead}
+use mathlib.Core.Path.{◌∙◌}
+use borrow.Author.Rules.{rules}
+use Rattle.algorithms.proofs.Aead.is_known.Goals as goal
+
+pub returns : goal.returns
+returns c = c.is_known.ensures ∙ rw c.row-row.ensures
