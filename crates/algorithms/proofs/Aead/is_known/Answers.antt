@@ -2,8 +2,9 @@
 -- Assumes nothing.
 use Rattle.algorithms.specs.Sizes.{known_aead}
 use mathlib.Core.Path.{◌∙◌}
-use borrow.Author.Rules.{rules}
+use Rattle.std.proofs.Common.{refl}
 use Rattle.algorithms.proofs.Aead.is_known.Goals as goal
 
 pub returns : goal.returns
-returns c = c.is_known.ensures ∙ rw c.row-row.ensures
+unfolding known_aead
+returns c = c.is_known.ensures ∙ rw c.row-row.ensures refl
