@@ -68,12 +68,12 @@ module _ (taken bytes : List ℕ) (at more : ℕ) (none : fault_of (suc more) ta
 module _ (more : ℕ) (taken bytes : List ℕ) (at : ℕ) where
   pub parse_end : length bytes ≤ at → parse_from more taken bytes at ≡ good []
   unfolding parse_from
-  parse_end h = elim more [ zero ↦ rw (le-leb (length bytes) at h) | suc n ↦ rw (le-leb (length bytes) at h) ]
+  parse_end h = elim more as (λ k. parse_from k taken bytes at ≡ good []) [ zero ↦ rw (le-leb (length bytes) at h) | suc n ↦ rw (le-leb (length bytes) at h) ]
 
   pub parse_fault : at < length bytes → (fault_of more taken bytes at ≡ 0 → ⊥) → parse_from more taken bytes at ≡ bad (refused_for at (key_end bytes at) (fault_of more taken bytes at))
   unfolding parse_from
   parse_fault h =
-      elim more [
+      elim more as (λ k. (fault_of k taken bytes at ≡ 0 → ⊥) → parse_from k taken bytes at ≡ bad (refused_for at (key_end bytes at) (fault_of k taken bytes at))) [
         | zero ↦ λ e. rw (lt-leb (length bytes) at h)
         | suc n ↦ λ e. rw (lt-leb (length bytes) at h) (refused-for at (key_end bytes at) (fault_of (suc n) taken bytes at) _ e)
       ]
@@ -89,7 +89,7 @@ module _ (more : ℕ) (taken bytes : List ℕ) (at : ℕ) where
       → parse_from more taken bytes at ≡ bad (refused_for at (key_end bytes at) (fault_of more taken bytes at))
   unfolding parse_from
   parse_bad h k =
-      elim more [
+      elim more as (λ m. good_at taken bytes at ≡ false → parse_from m taken bytes at ≡ bad (refused_for at (key_end bytes at) (fault_of m taken bytes at))) [
         | zero ↦ λ e. rw (lt-leb (length bytes) at h)
         | suc n ↦ λ e. rw (lt-leb (length bytes) at h) (refused-for at (key_end bytes at) (fault_of (suc n) taken bytes at) _ (λ z. faulty n z k e))
       ]
@@ -191,7 +191,7 @@ skips_from more bytes at = length (filtered (is_skipped bytes) (starts_from more
 module _ (more : ℕ) (bytes : List ℕ) (at : ℕ) where
   pub skips_end : length bytes ≤ at → skips_from more bytes at ≡ 0
   unfolding starts_from filtered
-  skips_end h = elim more [ zero ↦ refl | suc n ↦ rw (le-leb (length bytes) at h) ]
+  skips_end h = elim more as (λ k. skips_from k bytes at ≡ 0) [ zero ↦ refl | suc n ↦ rw (le-leb (length bytes) at h) ]
 
   pub skips_one : is_skipped bytes at ≡ true → skips_from (suc more) bytes at ≡ suc (skips_from more bytes (next_start bytes at))
   unfolding starts_from filtered

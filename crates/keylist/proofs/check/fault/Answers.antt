@@ -13,7 +13,7 @@ use Rattle.keylist.proofs.check.fault.Goals.{After-has_byte, After-word_at-pair_
 
 -- S, as the code has read it
 pairs_read : (c : After-word_at-pair_bytes)
-    →    c.word_at-pair_bytes.result ≡ pair_bytes_at c.args.list.now c.args.at
+    → c.word_at-pair_bytes.result ≡ pair_bytes_at c.args.list.now c.args.at
 pairs_read c =
     rw c.requires.1 at c.word_at-pair_bytes.ensures
 
@@ -40,13 +40,13 @@ pub returns-then-not-pair_bytes_hold : goal.returns-then-not-pair_bytes_hold
 returns-then-not-pair_bytes_hold c =
     let more = still (goal.at.returns-then-not-pair_bytes_hold c).After-word_at-pair_bytes in
     let read = pairs_read (goal.at.returns-then-not-pair_bytes_hold c).After-word_at-pair_bytes in
-    let unruly = sym c.pair_bytes_hold.ensures ∙ not-true _ c.if-not-pair_bytes_hold.true in
+    let unruly = sym c.pair_bytes_hold.ensures ∙ c.if-not-pair_bytes_hold.true in
     sym (fault_pairs _ _ _ _ more (omega arith) (omega arith) (omega arith) (rw read at unruly))
 
 -- S keeps its rule
 pairs-hold : (c : Else-not-pair_bytes_hold)
-    →    pair_bytes_hold (pair_bytes_at c.args.list.now c.args.at) ≡ true
-pairs-hold c = rw (pairs_read (c).UP_After-word_at-pair_bytes) at (sym c.pair_bytes_hold.ensures ∙ not-false _ c.if-not-pair_bytes_hold.false)
+    → pair_bytes_hold (pair_bytes_at c.args.list.now c.args.at) ≡ true
+pairs-hold c = rw (let it : c.word_at-pair_bytes.result ≡ pair_bytes_at c.args.list.now c.args.at = rw c.requires.1 at c.word_at-pair_bytes.ensures in it) at (sym c.pair_bytes_hold.ensures ∙ c.if-not-pair_bytes_hold.false)
 
 pub returns-then-size-key-2 : goal.returns-then-size-key-2
 returns-then-size-key-2 c =
@@ -56,13 +56,13 @@ returns-then-size-key-2 c =
 
 -- what the test of the key id leaves
 by_id : (c : After-has_byte)
-    →    let a = c.args in
+    → let a = c.args in
     fault_of a.more a.taken.now a.list.now a.at ≡ (21 when c.has_byte.result otherwise 0)
 by_id c =
-    let more = still (c).UP_After-word_at-pair_bytes in
-    let read = pairs_read (c).UP_After-word_at-pair_bytes in
+    let more = (let it : c.args.more ≡ 0 → ⊥ = c.if-more-eq0.false in it) in
+    let read = (let it : c.word_at-pair_bytes.result ≡ pair_bytes_at c.args.list.now c.args.at = rw c.requires.1 at c.word_at-pair_bytes.ensures in it) in
     rw (c.has_byte.ensures, c.byte_at.ensures)
-    (fault_by_id _ _ _ _ more (omega arith) (omega arith) (omega arith) (pairs-hold (c).UP_Else-not-pair_bytes_hold) (omega arith))
+    (fault_by_id _ _ _ _ more (omega arith) (omega arith) (omega arith) (let it : pair_bytes_hold (pair_bytes_at c.args.list.now c.args.at) ≡ true = rw (let it : c.word_at-pair_bytes.result ≡ pair_bytes_at c.args.list.now c.args.at = rw c.requires.1 at c.word_at-pair_bytes.ensures in it) at (sym c.pair_bytes_hold.ensures ∙ c.if-not-pair_bytes_hold.false) in it) (omega arith))
 
 pub returns-then-has_byte : goal.returns-then-has_byte
 returns-then-has_byte c = rw (by_id (goal.at.returns-then-has_byte c).After-has_byte, c.if-has_byte.true)

@@ -19,12 +19,12 @@ loop-more-init c = refl
 
 -- the configuration at the loop's offset, as the code has tested it
 skips : (c : Else-not-is_skipped) → is_skipped c.args.list.now c.loop-more.at ≡ true
-skips c = sym c.is_skipped.ensures ∙ not-false _ c.if-not-is_skipped.false
+skips c = sym c.is_skipped.ensures ∙ c.if-not-is_skipped.false
 
 pub returns-then-not-is_skipped : goal.returns-then-not-is_skipped
 returns-then-not-is_skipped c =
     let l = c.loop-more in
-    sym (l.invariant ∙ read_here _ l.more l.at (sym c.is_skipped.ensures ∙ not-true _ c.if-not-is_skipped.true))
+    sym (l.invariant ∙ read_here _ l.more l.at (sym c.is_skipped.ensures ∙ c.if-not-is_skipped.true))
 
 pub loop-more-preserved : goal.loop-more-preserved
 loop-more-preserved c =

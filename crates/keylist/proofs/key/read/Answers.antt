@@ -19,7 +19,7 @@ pub returns-in-Found : goal.returns-in-Found
 returns-in-Found c = rw (← c.find.ensures, c.in-Found.is)
 
 pub returns-in-Refused : goal.returns-in-Refused
-returns-in-Refused c = rw (← c.XXAfter-shared_slice_known.find.ensures, c.XXAt-match-keys2.enum_told.given.1)
+returns-in-Refused c = rw (← c.find.ensures, c.in-Refused.is)
 
 pub slice_bounds-result-count : goal.slice_bounds-result-count
 slice_bounds-result-count c = omega (arith, inside c)
