@@ -7,22 +7,18 @@ use lib.Dec.{eqb}
 use borrow.Author.Tests.{eq-eqb, ne_eqb, eqb-true, eqb-false}
 use Rattle.wire.proofs.Booleans.{either}
 use borrow.Author.Rules.{rules}
-use Rattle.exchange.proofs.Exchange.has_opened_length.Statement.{statement}
-use Rattle.exchange.proofs.Exchange.has_opened_length.Tie as tie
+use Rattle.exchange.proofs.Exchange.has_opened_length.Goals as goal
 
-returns : tie.Need-returns
-returns c =
-    let a = c.before.before.args in
+pub returns-then-length-tag : goal.returns-then-length-tag
+returns-then-length-tag c =
+    let a = c.args in
     sym (ne_eqb (a.n + 16) a.self.ciphertext_length (λ e. omega arith))
 
-returns-2 : tie.Need-returns-2
-returns-2 c =
-    let a = c.before.before.args in
+pub returns : goal.returns
+returns c =
+    let a = c.args in
     let n = a.n in
     let size = a.self.ciphertext_length in
     either (eqb n (size - 16))
     (λ t. rw (t, eq-eqb (n + 16) size (omega (arith, eqb-true n (size - 16) t))))
     (λ f. rw (f, ne_eqb (n + 16) size (λ e. eqb-false n (size - 16) f (omega arith))))
-
-pub has_opened_length_spec : {M : Type 1} → statement M
-has_opened_length_spec = tie.close (tie.spec (λ c. search rules) returns returns-2)
