@@ -4,4 +4,3 @@ pub mod Readings
 pub mod Sections
 pub mod FirstFault
 pub mod Walking
-mod Walks

@@ -1,5 +1,4 @@
-// The field reader: it holds the lent message, up to its section's end, and its place. The borrow checker covers no function over such a struct, so each
-// is walked by hand, and leaves the work to `cursor`.
+// The field reader: it holds the lent message, up to its section's end, and its place. Each of its functions leaves the work to `cursor`.
 ghost use Rattle.std.specs.Prelude.{◌≡◌, leb, length, take};
 ghost use Rattle.fields.specs.Reader.{next_field, name_in, value_in, place_behind};
 
