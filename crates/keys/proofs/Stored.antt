@@ -28,10 +28,10 @@ unread = record { count = 0; kem = 0; id = record { 0 = 0 }; retired = 0; pair_c
 
 -- the arrays of a struct that code holds have their length: owning the struct says so (`.good` of a parameter)
 pub full : (keys : Keys) (values : List Val) → Is Keys.the_row keys values → length keys.list ≡ 16
-full keys values is = sym (length-map keys.list (KeyState.the_type).to) ∙ is.1.1.0.1.0.1
+full keys values is = is.1.1.0.1.0.1
 
 pub full_pairs : (key : KeyState) (values : List Val) → Is KeyState.the_row key values → length key.pairs ≡ 16
-full_pairs key values is = sym (length-map key.pairs (Pair.the_type).to) ∙ is.1.1.1.1.1.1.1.0.1.0.1
+full_pairs key values is = is.1.1.1.1.1.1.1.0.1.0.1
 
 -- the reports of the first keys of an array
 abbrev pub reports_of : ℕ → List KeyState → List KeyReport

@@ -1,0 +1,7 @@
+-- `keys::KeyState::used` meets its contract.
+-- Assumes nothing.
+use borrow.Author.Rules.{rules}
+use Rattle.keys.proofs.KeyState.used.Goals as goal
+
+pub returns : goal.returns
+returns c = rw c.one_more.ensures

@@ -1,0 +1,9 @@
+-- `keys::Keys::none` meets its contract.
+-- Assumes nothing.
+use borrow.Author.Rules.{rules}
+use Rattle.keys.specs.Stored.{stored_keys}
+use Rattle.keys.proofs.Keys.none.Goals as goal
+
+pub returns : goal.returns
+unfolding stored_keys
+returns c = rw c.blank.ensures
