@@ -92,20 +92,20 @@ module _ (bytes : List ℕ) (at id : ℕ) (f : Fields) (rest : List ℕ) (says :
   pair_bytes_read : pair_bytes_at bytes at ≡ first_pair_count f * 2
   pair_bytes_read = word_first bytes (key_end bytes at) (first_pair_count f * 2) (words_bytes (first_pairs f) ++ rest) key-end
 
-  pairs_start : drop (pairs_start bytes at) bytes ≡ words_bytes (first_pairs f) ++ rest
-  pairs_start = behind bytes (key_end bytes at) 2 (word_bytes (first_pair_count f * 2)) (words_bytes (first_pairs f) ++ rest) key-end refl
+  pairs-start : drop (pairs_start bytes at) bytes ≡ words_bytes (first_pairs f) ++ rest
+  pairs-start = behind bytes (key_end bytes at) 2 (word_bytes (first_pair_count f * 2)) (words_bytes (first_pairs f) ++ rest) key-end refl
 
   pairs_read : pair_numbers (configuration_at bytes at).pairs ≡ first_pairs f
   unfolding configuration_at
   pairs_read =
       rw pair_bytes_read
-      (pairs-there bytes (first_pair_count f * 2 / 4) (pairs_start bytes at) (first_pairs f) rest pairs_start (omega arith))
+      (pairs-there bytes (first_pair_count f * 2 / 4) (pairs_start bytes at) (first_pairs f) rest pairs-start (omega arith))
 
   rest_read : drop (at + 2 + first_length f) bytes ≡ rest
   rest_read =
       let size = length (words_bytes (first_pairs f)) in
       let end : at + 2 + first_length f ≡ pairs_start bytes at + size = omega (arith, ap public_key_length kem_read, words_length (first_pairs f)) in
-      rw end (behind bytes (pairs_start bytes at) size (words_bytes (first_pairs f)) rest pairs_start refl)
+      rw end (behind bytes (pairs_start bytes at) size (words_bytes (first_pairs f)) rest pairs-start refl)
 
   inside : at + 2 + first_length f ≤ length bytes
   inside = omega (arith, words_length (first_pairs f), simp (length-drop, length-append) at (ap length there))
@@ -153,9 +153,9 @@ empty : (numbers : List ℕ) → eqb (length numbers) 0 ≡ true → [] ≡ numb
 empty [] e = refl
 empty (n ∷ numbers) e = absurd (omega (arith, eqb-true (length (n ∷ numbers)) 0 e))
 
-none_left : (f : Fields) → none_left f ≡ true → as_fields [] ≡ f
+none-left : (f : Fields) → none_left f ≡ true → as_fields [] ≡ f
 unfolding flat_map
-none_left f h =
+none-left f h =
     let pairs = both (empty f.pair_counts) (empty f.pairs) in
     let each = both (empty f.kems) (both (empty f.key_lengths) (both (empty f.keys) pairs)) in
     let (kems, (lengths, (keys, (counts, numbers)))) = each (simp (append_assoc, none_of) at h) in
@@ -168,7 +168,7 @@ unfolding encode_from configuration_at
 read-from more taken bytes at [] f few e =
     let (none, nothing) = end_given (none_left f) at e in
     let end : length bytes ≤ at = omega (arith, rw length-drop at (ap length nothing)) in
-    ([], parse_end more taken bytes at end, skips_end more bytes at end, refl, none_left f none)
+    ([], parse_end more taken bytes at end, skips_end more bytes at end, refl, none-left f none)
 read-from zero taken bytes at (id ∷ ids) f few e =
     let encoded_rest = encode_from (taken ++ id ∷ []) (at + 2 + first_length f) ids (behind_first f) in
     let given = front_given (first_fault taken id f) at (first_key_end at f) (first_bytes id f) encoded_rest e in
