@@ -15,4 +15,4 @@ module _ (g : declared.Gateway) (values : List Val) (is : Is Gateway.the_row g v
   full_keys = full g.keys _ is.1.1.1.1.0
 
   pub full_table : length g.table ≡ 128
-  full_table = sym (length-map g.table (Exchange.the_type).to) ∙ is.1.1.1.1.1.0.1.0.1
+  full_table = is.1.1.1.1.1.0.1.0.1

@@ -1,0 +1,8 @@
+-- `gateway::admission::Rejection::of` meets its contract.
+-- Assumes nothing.
+use Prim.Native.Nat.{◌-◌}
+use borrow.Author.Rules.{rules}
+use Rattle.gateway.proofs.admission.AdmitRefusal.of.Goals as goal
+
+pub returns : goal.returns
+returns c = rw (c.status.ensures, c.is_key_problem.ensures)
