@@ -1,0 +1,7 @@
+-- `results::outcome::TwoNumbersResult::of` meets its contract.
+-- Assumes nothing.
+use borrow.Author.Rules.{rules}
+use Rattle.results.proofs.outcome.TwoNumbersResult.of.Goals as goal
+
+pub returns : goal.returns
+returns c = cc
