@@ -59,7 +59,7 @@ module _ (bytes : List ℕ) where
 
   starts_end : (more at : ℕ) → length bytes ≤ at → starts_from more bytes at ≡ []
   unfolding starts_from
-  starts_end more at h = elim more [ zero ↦ refl | suc n ↦ rw (le-leb (length bytes) at h) ]
+  starts_end more at h = elim more as (λ k. starts_from k bytes at ≡ []) [ zero ↦ refl | suc n ↦ rw (le-leb (length bytes) at h) ]
 
   starts_more : (more at : ℕ) → at < length bytes → starts_from (suc more) bytes at ≡ at ∷ starts_from more bytes (next_start bytes at)
   unfolding starts_from
