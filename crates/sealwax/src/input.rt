@@ -1,6 +1,7 @@
 // Standard input, through a buffer: the bytes that were read and wait to be answered.
+use crate::failure::Failure;
 use crate::parts::length_of;
-use libc::{STDERR_FILENO, STDIN_FILENO};
+use std::io::Read;
 use wire::bytes::byte_at;
 
 // The most bytes of a line.
@@ -12,7 +13,7 @@ pub(crate) const INPUT_SIZE: usize = 262144;
 pub(crate) type InputBuffer = [u8; INPUT_SIZE];
 
 // The bytes of the buffer from `start` up to `end` wait. `lines` counts the lines passed. Where `ended` holds, nothing more is to be read.
-#[derive(Drop)]
+#[derive(Clone, Copy)]
 pub(crate) struct Input {
     pub start: usize,
     pub end: usize,
@@ -56,18 +57,18 @@ impl Input {
 
     // With what waits moved to the front of the buffer, and more read behind it. Of a line that fills the buffer only so much is kept that it is
     // still too long.
-    pub(crate) fn more(self, bytes: &mut [u8]) -> Self {
+    pub(crate) fn more<R: Read>(self, reader: &mut R, bytes: &mut [u8]) -> Result<Self, Failure> {
         let mut left = move_down(bytes, self.start, self.end, 0);
         if left == INPUT_SIZE {
             left = MOST_LINE + 1;
         }
-        let count = read_from(bytes, left);
-        Input {
+        let count = read_from(reader, bytes, left)?;
+        Ok(Input {
             start: 0,
             end: std::num::wrapping_add_usize(left, count),
             lines: self.lines,
             ended: count == 0,
-        }
+        })
     }
 }
 
@@ -109,13 +110,12 @@ pub(crate) fn set(bytes: &mut [u8], at: usize, byte: u8) {
 }
 
 // Reads once into the buffer from a place on, and answers how many bytes came: 0 at the end of the input.
-fn read_from(bytes: &mut [u8], at: usize) -> usize {
+fn read_from<R: Read>(reader: &mut R, bytes: &mut [u8], at: usize) -> Result<usize, Failure> {
     if bytes.len() < at {
-        return 0;
+        return Ok(0);
     }
-    let got = libc::read(STDIN_FILENO, &mut bytes[at..]);
-    if got < 0 {
-        io::write_all(STDERR_FILENO, b"sealwax: standard input cannot be read\n");
+    match reader.read(&mut bytes[at..]) {
+        Ok(count) => Ok(count),
+        Err(_) => Err(Failure::Input),
     }
-    io::count(got, bytes)
 }

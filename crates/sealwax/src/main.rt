@@ -2,6 +2,7 @@
 #![tactic(auto)]
 
 mod client_lines;
+mod failure;
 mod gateway_lines;
 mod input;
 mod lines;
@@ -12,38 +13,52 @@ mod text;
 mod words;
 mod write_lines;
 
+use crate::failure::Failure;
 use crate::gateway_lines::{call_of, engine_after, engine_of, is_of_gateway};
 use crate::input::{INPUT_SIZE, Input, InputBuffer, MOST_LINE, NO_LINE, set};
 use crate::lines::Line;
-use crate::output::{NO_OUTPUT, OUTPUT_SIZE, OutputBuffer, ended, written};
+use crate::output::{OUTPUT_SIZE, OutputBuffer, ended, written};
 use crate::parts::part_of;
 use crate::write_lines::put_write;
 use gateway::Gateway;
+use std::io::{Read, Write};
+use std::process::ExitCode;
 use wire::bytes::byte_at;
 
-fn main() {
+fn main(rt: HostRuntime) -> ExitCode {
     let mut bytes = [0u8; INPUT_SIZE];
     let mut out = [0u8; OUTPUT_SIZE];
-    replay(&mut bytes, &mut out);
+    let mut stdin = rt.stdin();
+    let mut stdout = rt.stdout();
+    match replay(&mut stdin, &mut stdout, &mut bytes, &mut out) {
+        Ok(()) => ExitCode::SUCCESS,
+        Err(failure) => {
+            let _ = rt.eprintln(failure);
+            ExitCode::FAILURE
+        }
+    }
 }
 
 // Answers each line that is whole, and reads more where none is, until the input ends. A proved loop has to end, and nothing says that the input does,
-// so it counts its turns down from a number that no run uses up.
-fn replay(bytes: &mut InputBuffer, out: &mut OutputBuffer) {
+// so it counts its turns up to a number that no run reaches.
+fn replay<R: Read, W: Write>(
+    reader: &mut R,
+    writer: &mut W,
+    bytes: &mut InputBuffer,
+    out: &mut OutputBuffer,
+) -> Result<(), Failure> {
     let mut gateway = first_gateway();
     let mut engine = lines::FAST;
     let mut input = Input::new();
     let mut at = 0;
-    let mut turns = u64::MAX;
-    while turns != 0 {
-        turns -= 1;
+    for _ in 0..u64::MAX {
         let end = input.line_end(bytes);
         if end == NO_LINE {
-            at = written(out, at);
-            if is_over(input, at) {
+            at = written(writer, out, at)?;
+            if input.ended {
                 break;
             }
-            input = input.more(bytes);
+            input = input.more(reader, bytes)?;
             continue;
         }
         let line = read_line(input.start, end, bytes);
@@ -61,12 +76,13 @@ fn replay(bytes: &mut InputBuffer, out: &mut OutputBuffer) {
                 at,
             );
             gateway = answered.gateway;
-            at = ended(out, at, answered.end);
+            at = ended(writer, out, at, answered.end)?;
         } else {
             let end = answer(line, input.lines, end, bytes, out, at);
-            at = ended(out, at, end);
+            at = ended(writer, out, at, end)?;
         }
     }
+    Ok(())
 }
 
 // The gateway at the start is the one that a refused setup hands back.
@@ -74,14 +90,6 @@ fn first_gateway() -> Gateway {
     let refused = Gateway::setup(&[], 0);
     let gateway = refused.gateway;
     gateway
-}
-
-// There is nothing more to read, or no way to write.
-fn is_over(input: Input, at: usize) -> bool {
-    if at == NO_OUTPUT {
-        return true;
-    }
-    input.ended
 }
 
 // What the line from a place of the buffer up to another says. Its bytes are decoded in the buffer.

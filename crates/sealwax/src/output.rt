@@ -1,6 +1,7 @@
 // Standard output, through a buffer: the answers that wait to be written stand at its front.
+use crate::failure::Failure;
 use crate::text::put_byte;
-use libc::{STDERR_FILENO, STDOUT_FILENO};
+use std::io::Write;
 
 // The buffer has room for the longest answer, of `split` or `request`, behind as much as waits in it before a line.
 pub(crate) const OUTPUT_SIZE: usize = 262144;
@@ -9,33 +10,34 @@ const MOST_WAITING: usize = 65536;
 
 pub(crate) type OutputBuffer = [u8; OUTPUT_SIZE];
 
-// What stands for the end of what waits where standard output cannot be written.
-pub(crate) const NO_OUTPUT: usize = usize::MAX;
-
 // Where what waits ends once a line is answered from a place up to an end: behind a newline, where it has an answer. Much that waits is written.
-pub(crate) fn ended(out: &mut OutputBuffer, at: usize, end: usize) -> usize {
+pub(crate) fn ended<W: Write>(
+    writer: &mut W,
+    out: &mut OutputBuffer,
+    at: usize,
+    end: usize,
+) -> Result<usize, Failure> {
     if end == at {
-        return at;
+        return Ok(at);
     }
     let end = put_byte(out, end, b'\n');
     if end < MOST_WAITING {
-        return end;
+        return Ok(end);
     }
-    written(out, end)
+    written(writer, out, end)
 }
 
-// Writes what waits, up to an end: 0, or NO_OUTPUT.
-pub(crate) fn written(bytes: &[u8], end: usize) -> usize {
-    let start = 0;
+// Writes what waits, up to an end, and answers 0, the end of what waits then.
+pub(crate) fn written<W: Write>(
+    writer: &mut W,
+    bytes: &[u8],
+    end: usize,
+) -> Result<usize, Failure> {
     if bytes.len() < end {
-        return NO_OUTPUT;
+        return Err(Failure::Output);
     }
-    if io::write_all(STDOUT_FILENO, &bytes[start..end]) {
-        return 0;
+    match writer.write_all(&bytes[..end]) {
+        Ok(()) => Ok(0),
+        Err(_) => Err(Failure::Output),
     }
-    io::write_all(
-        STDERR_FILENO,
-        b"sealwax: standard output cannot be written\n",
-    );
-    NO_OUTPUT
 }

@@ -1,6 +1,7 @@
 // Text at a place of the output: each function answers the place behind what it wrote. What has no room is left out.
 use crate::output::{OUTPUT_SIZE, OutputBuffer};
 use crate::parts::{MOST_ROOM, part_of};
+use itoa::Buffer;
 use results::outcome::Outcome;
 
 pub(crate) fn put_byte(out: &mut OutputBuffer, at: usize, byte: u8) -> usize {
@@ -79,9 +80,8 @@ pub(crate) fn put_buffer(
 
 // A number in decimal.
 fn put_decimal(out: &mut OutputBuffer, at: usize, number: u64) -> usize {
-    let mut digits = [0u8; 20];
-    let count = io::decimal(number, &mut digits);
-    put(out, at, &digits[..count])
+    let mut digits = Buffer::new();
+    put(out, at, digits.format(number).as_bytes())
 }
 
 // A KEM, KDF or AEAD number as four hexadecimal digits.
