@@ -1,6 +1,6 @@
 -- What a call on a ticket tells, whichever it is.
 -- Assumes nothing.
-use mathlib.Core.Path.{◌≡◌, refl, sym, ◌∙◌}
+use mathlib.Core.Path.{◌≡◌, refl, ◌∙◌}
 use mathlib.Core.Bool.{true, false}
 use Prim.Native.Nat.{ℕ, zero, suc}
 use lib.ListN.{length}
@@ -11,7 +11,7 @@ use Rattle.exchange.specs.declared.Exchange.{Exchange}
 use Rattle.exchange.specs.declared.Move.{Move}
 use Rattle.exchange.specs.declared.StepAnswer.{StepAnswer}
 use Rattle.exchange.specs.Exchange.{is_free, is_asked}
-use Rattle.exchange.specs.Steps.{Step, refusal_by, refusal, fails, accepted, answer_by, answer, step_number, step_unprotected}
+use Rattle.exchange.specs.Steps.{Step, refusal_by, refusal, fails, answer_by, answer, step_number, step_unprotected}
 use Rattle.exchange.proofs.Lengths.{Accepted, accepted_by}
 use Rattle.exchange.proofs.Moves.{failing_asked, accepted_number, accepted_unprotected}
 

@@ -8,7 +8,7 @@ use native.Mathlib.Omega.{arith}
 use lib.Dec.{ltb}
 use lib.ListN.{length, take, replicate, length-append, length-take}
 use borrow.Author.Tests.{ltb-false}
-use Rattle.wire.specs.Refusals.{◌when◌otherwise◌, refused, unless_refused, written}
+use Rattle.wire.specs.Refusals.{◌when◌otherwise◌, refused, unless_refused}
 use Rattle.wire.specs.Bytes.{with_front}
 use Rattle.wire.specs.Helpers.{overwritten}
 use Rattle.wire.specs.Texts.{ascii, head_length, info_length, info_bytes, request_label}

@@ -1,11 +1,10 @@
 -- The arrays of a gateway that code holds have their length: owning it says so (`.good` of a parameter).
 -- Assumes nothing.
-use mathlib.Core.Path.{◌≡◌, sym, ◌∙◌}
+use mathlib.Core.Path.{◌≡◌}
 use mathlib.Core.List.{List}
-use lib.ListN.{length, length-map}
+use lib.ListN.{length}
 use mir.Val.{Val}
 use denote.Laws.{Is}
-use Rattle.exchange.specs.contracts.Exchange
 use Rattle.keys.proofs.Stored.{full}
 use Rattle.gateway.specs.declared.Gateway as declared
 use Rattle.gateway.specs.contracts.Gateway

@@ -1,7 +1,7 @@
 -- The six calls as data, their answers, and what a call gives.
-use Rattle.std.specs.Prelude.{ℕ, List, []}
+use Rattle.std.specs.Prelude.{ℕ, List}
 use Rattle.exchange.specs.declared.StepAnswer.{StepAnswer}
-use Rattle.exchange.specs.Steps.{Step, answer, buffer, step_number, step_unprotected}
+use Rattle.exchange.specs.Steps.{Step, step_number, step_unprotected}
 use Rattle.gateway.specs.declared.AdmitAnswer.{AdmitAnswer}
 use Rattle.gateway.specs.declared.RetireAnswer.{RetireAnswer}
 use Rattle.gateway.specs.declared.Report.{Report}

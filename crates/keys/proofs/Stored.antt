@@ -17,7 +17,6 @@ use Rattle.keys.specs.declared.KeyReport.{KeyReport}
 use Rattle.keylist.specs.Layout.{most_configurations}
 use Rattle.keys.specs.Keys.{report_of, blank_report, stored_reports, key_of, keys_of, padded}
 use Rattle.keys.specs.Helpers.{no_key, key_at}
-use Rattle.keylist.specs.contracts.Pair
 use Rattle.keys.specs.contracts.KeyState
 use Rattle.keys.specs.contracts.Keys
 use Rattle.keys.proofs.Arrays.{set-padded, map-append, length_stored, stored_at, take_min}

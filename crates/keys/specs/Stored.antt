@@ -1,5 +1,5 @@
 -- How the gateway stores its keys: arrays of a fixed length whose first elements count.
-use Rattle.std.specs.Prelude.{ℕ, ◌/◌, ◌+◌, ◌-◌, ◌^◌, min, List, [], map, length, get_or, set, replicate}
+use Rattle.std.specs.Prelude.{ℕ, ◌/◌, ◌+◌, ◌-◌, ◌^◌, min, List, map, length, get_or, set, replicate}
 use Rattle.wire.specs.Search.{first_place}
 use Rattle.keylist.specs.declared.Pair.{Pair}
 use Rattle.keylist.specs.Layout.{Configuration, most_configurations, most_pair_bytes}

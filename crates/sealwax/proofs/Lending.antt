@@ -1,6 +1,6 @@
 -- The part of a buffer that the code lends is the one that the definitions name.
 -- Assumes nothing.
-use Rattle.std.proofs.Common.{◌≡◌, ℕ, ◌+◌, ◌-◌, ◌≤◌, min, [], take, drop, replicate, ap, ◌∙◌, arith, take_at}
+use Rattle.std.proofs.Common.{◌≡◌, ℕ, ◌+◌, ◌-◌, ◌≤◌, min, take, drop, replicate, ap, ◌∙◌, arith, take_at}
 use lib.ListN.{length-replicate, replicate-append-replicate}
 use Rattle.sealwax.specs.Calls.{filled}
 

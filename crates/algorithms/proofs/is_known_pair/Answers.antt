@@ -1,7 +1,6 @@
 -- `algorithms::is_known_pair` meets its contract.
 -- Assumes nothing.
 use mathlib.Core.Path.{sym, ◌∙◌}
-use borrow.Author.Rules.{rules}
 use Rattle.algorithms.proofs.is_known_pair.Goals as goal
 
 pub returns-then-is_known : goal.returns-then-is_known

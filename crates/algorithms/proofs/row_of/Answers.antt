@@ -2,14 +2,11 @@
 -- that of the definition, row by row, by computation.
 -- Assumes nothing.
 use borrow.Author.Count.{below_more}
-use mathlib.Core.Bool.{false}
-use Rattle.algorithms.specs.Table.{table, row_of, is_row, no_row}
+use Rattle.algorithms.specs.Table.{table, row_of, no_row}
 use Rattle.wire.proofs.Matches.{first_at, first_none}
-use mathlib.Core.Path.{◌≡◌, sym, ◌∙◌}
-use Prim.Native.Nat.{ℕ, ◌-◌, ◌≤◌, ◌<◌}
+use mathlib.Core.Path.{sym, ◌∙◌}
 use native.Mathlib.Omega.{arith}
 use borrow.Author.Rules.{rules}
-use lib.ListN.{get_or}
 use Rattle.algorithms.proofs.row_of.Goals as goal
 
 pub returns-then-is : goal.returns-then-is

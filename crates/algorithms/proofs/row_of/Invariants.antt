@@ -1,14 +1,10 @@
 -- `algorithms::row_of` meets its contract. The loop's invariant: none of the rows passed is the one sought. The table of the code is
 -- that of the definition, row by row, by computation.
 -- Assumes nothing.
-use borrow.Author.Count.{below_more}
 use mathlib.Core.Bool.{false}
-use Rattle.algorithms.specs.Table.{table, row_of, is_row, no_row}
-use Rattle.wire.proofs.Matches.{first_at, first_none}
-use mathlib.Core.Path.{◌≡◌, sym, ◌∙◌}
+use Rattle.algorithms.specs.Table.{table, is_row, no_row}
+use mathlib.Core.Path.{◌≡◌}
 use Prim.Native.Nat.{ℕ, ◌-◌, ◌≤◌, ◌<◌}
-use native.Mathlib.Omega.{arith}
-use borrow.Author.Rules.{rules}
 use lib.ListN.{get_or}
 use Rattle.algorithms.proofs.row_of.Given as goal
 

@@ -1,8 +1,6 @@
 -- `gateway::refused_setup` meets its contract.
 -- Assumes nothing.
 use mathlib.Core.Path.{refl, ◌∙◌}
-use Prim.Native.Nat.{◌-◌}
-use borrow.Author.Rules.{rules}
 use Rattle.gateway.proofs.refused_setup.Goals as goal
 
 pub returns : goal.returns

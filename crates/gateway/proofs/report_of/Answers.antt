@@ -1,6 +1,5 @@
 -- `gateway::report_of` meets its contract.
 -- Assumes nothing.
-use borrow.Author.Rules.{rules}
 use Rattle.gateway.proofs.report_of.Goals as goal
 
 pub returns : goal.returns

@@ -3,10 +3,9 @@
 use mathlib.Core.Path.{◌≡◌, sym, ◌∙◌}
 use Prim.Native.Nat.{◌+◌, ◌-◌, ◌<◌}
 use native.Mathlib.Omega.{arith}
-use borrow.Author.Rules.{rules}
 use Rattle.wire.specs.Bytes.{byte_at}
 use Rattle.integers.specs.Integers.{size_of, integer_value}
-use Rattle.integers.proofs.Values.{has_room, is_cut, is_whole, next_byte, read_all, ReadTo, size_least, size_most}
+use Rattle.integers.proofs.Values.{has_room, is_cut, is_whole, next_byte, read_all, size_least, size_most}
 use Rattle.integers.proofs.read.Goals as goal
 
 pub returns-then-bytes-at : goal.returns-then-bytes-at

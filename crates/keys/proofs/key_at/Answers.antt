@@ -4,7 +4,6 @@
 use mathlib.Core.Path.{◌≡◌, ap, ap₂, ◌∙◌}
 use Prim.Native.Nat.{ℕ, ◌+◌, ◌/◌}
 use native.Mathlib.Omega.{arith}
-use borrow.Author.Rules.{rules}
 use Rattle.keylist.specs.Layout.{pair_bytes_at, pairs_at}
 use Rattle.keylist.specs.declared.Place.{Place}
 use Rattle.keylist.specs.Helpers.{place_of}

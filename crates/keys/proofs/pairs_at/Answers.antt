@@ -1,12 +1,9 @@
 -- `keys::pairs_at` meets its contract. The loop's invariant: the pairs read so far stand first in the array.
 -- Assumes nothing.
 use mathlib.Core.Path.{◌≡◌, refl}
-use Prim.Native.Nat.{◌-◌, ◌≤◌}
 use native.Mathlib.Omega.{arith}
-use borrow.Author.Rules.{rules}
 use Rattle.keylist.specs.Layout.{pairs_at}
 use Rattle.keys.specs.Stored.{most_pairs, no_pair}
-use Rattle.keys.specs.Keys.{padded}
 use Rattle.keys.proofs.Arrays.{set-padded}
 use Rattle.keys.proofs.Reading.{pair_at, length_pairs, pairs_more}
 use Rattle.keys.proofs.pairs_at.Goals as goal

@@ -2,15 +2,12 @@
 -- what is left of the list.
 -- Assumes nothing.
 use mathlib.Core.Path.{◌≡◌}
-use Prim.Native.Nat.{◌-◌, ◌<◌}
 use native.Mathlib.Omega.{arith}
-use borrow.Author.Rules.{rules}
-use lib.ListN.{length}
 use Rattle.keylist.specs.Layout.{next_start}
 use Rattle.keylist.specs.Helpers.{first_read}
 use Rattle.keylist.proofs.Keys.{place_inside}
 use Rattle.keys.specs.Stored.{stored_keys}
-use Rattle.keys.proofs.Reading.{Read, read_start, read_room, read_next, read_end, read_holds, read_few, read_onward}
+use Rattle.keys.proofs.Reading.{read_start, read_room, read_next, read_end, read_holds, read_few, read_onward}
 use Rattle.keys.proofs.read_good.Goals as goal
 use Rattle.keys.proofs.read_good.Goals.{After-place_at-at}
 

@@ -1,16 +1,9 @@
 -- `keys::read_good` meets its contract. The loop's invariant is `Read`: the configurations before the offset are stored. The measure is
 -- what is left of the list.
 -- Assumes nothing.
-use mathlib.Core.Path.{◌≡◌}
-use Prim.Native.Nat.{◌-◌, ◌<◌}
-use native.Mathlib.Omega.{arith}
-use borrow.Author.Rules.{rules}
+use Prim.Native.Nat.{◌-◌}
 use lib.ListN.{length}
-use Rattle.keylist.specs.Layout.{next_start}
-use Rattle.keylist.specs.Helpers.{first_read}
-use Rattle.keylist.proofs.Keys.{place_inside}
-use Rattle.keys.specs.Stored.{stored_keys}
-use Rattle.keys.proofs.Reading.{Read, read_start, read_room, read_next, read_end, read_holds, read_few, read_onward}
+use Rattle.keys.proofs.Reading.{Read}
 use Rattle.keys.proofs.read_good.Given as goal
 
 abbrev pub invariant-loop-at : goal.invariant-loop-at

@@ -1,7 +1,6 @@
 -- `request::before_tag` meets its contract.
 -- Assumes nothing.
 use native.Mathlib.Omega.{arith}
-use borrow.Author.Rules.{rules}
 use Rattle.request.proofs.before_tag.Goals as goal
 
 pub returns-in_default : goal.returns-in_default

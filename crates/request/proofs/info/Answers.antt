@@ -2,7 +2,6 @@
 -- Assumes nothing.
 use mathlib.Core.Path.{ap, ◌∙◌}
 use Rattle.wire.specs.Texts.{info_bytes}
-use borrow.Author.Rules.{rules}
 use Rattle.request.proofs.info.Goals as goal
 
 pub returns : goal.returns

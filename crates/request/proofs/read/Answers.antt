@@ -11,7 +11,6 @@ use Rattle.algorithms.specs.Answers.{size_of}
 use Rattle.request.specs.Request.{enc_end}
 use Rattle.request.specs.Helpers.{request_refusal, length_refusal, before_tag}
 use Rattle.request.proofs.Requests.{accepted_request, refusal_by-length, enc_end_by_length}
-use borrow.Author.Rules.{rules}
 use Rattle.request.proofs.read.Goals as goal
 use Rattle.request.proofs.read.Goals.{After-before_tag-enc_end, After-refusal-number, After-shortest_request-shortest}
 

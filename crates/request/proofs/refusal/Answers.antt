@@ -1,6 +1,5 @@
 -- `request::refusal` meets its contract: each refusal by its test, in 01's order.
 -- Assumes nothing.
-use borrow.Author.Rules.{rules}
 use borrow.Author.Tests.{lt-ltb, le-ltb}
 use Rattle.request.proofs.refusal.Goals as goal
 

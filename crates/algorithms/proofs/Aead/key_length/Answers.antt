@@ -2,7 +2,6 @@
 -- Assumes nothing.
 use Rattle.algorithms.specs.Sizes.{known_aead, key_length}
 use mathlib.Core.Path.{◌∙◌}
-use borrow.Author.Rules.{rules}
 use Rattle.algorithms.proofs.Aead.key_length.Goals as goal
 
 pub returns : goal.returns

@@ -2,7 +2,6 @@
 -- Assumes nothing.
 use Rattle.algorithms.specs.Sizes.{known_kem, enc_length}
 use mathlib.Core.Path.{◌∙◌}
-use borrow.Author.Rules.{rules}
 use Rattle.algorithms.proofs.Kem.enc_length.Goals as goal
 
 pub returns : goal.returns

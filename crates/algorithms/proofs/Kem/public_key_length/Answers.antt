@@ -2,7 +2,6 @@
 -- Assumes nothing.
 use Rattle.algorithms.specs.Sizes.{known_kem, public_key_length}
 use mathlib.Core.Path.{◌∙◌}
-use borrow.Author.Rules.{rules}
 use Rattle.algorithms.proofs.Kem.public_key_length.Goals as goal
 
 pub returns : goal.returns

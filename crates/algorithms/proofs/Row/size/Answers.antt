@@ -1,6 +1,5 @@
 -- `algorithms::Row::size` meets its contract.
 -- Assumes nothing.
-use borrow.Author.Rules.{rules}
 use Rattle.algorithms.proofs.Row.size.Goals as goal
 
 pub returns-then-is_known : goal.returns-then-is_known

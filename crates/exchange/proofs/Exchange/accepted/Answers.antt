@@ -3,7 +3,6 @@
 use mathlib.Core.Path.{refl}
 use native.Mathlib.Omega.{arith}
 use Rattle.exchange.proofs.Lengths.{Lengths, lengths}
-use borrow.Author.Rules.{rules}
 use Rattle.exchange.proofs.Exchange.accepted.Goals as goal
 use Rattle.exchange.proofs.Exchange.accepted.Goals.{In-Respond}
 

@@ -2,7 +2,6 @@
 -- Assumes nothing.
 use borrow.Author.Tests.{eq-eqb, ne_eqb}
 use Rattle.exchange.specs.Exchange.{asked_phase, opened_phase}
-use borrow.Author.Rules.{rules}
 use Rattle.exchange.proofs.Exchange.allows.Goals as goal
 
 pub returns-then-self-eq-ASKED : goal.returns-then-self-eq-ASKED

@@ -6,7 +6,6 @@ use native.Mathlib.Omega.{arith}
 use lib.Dec.{eqb}
 use borrow.Author.Tests.{eq-eqb, ne_eqb, eqb-true, eqb-false}
 use Rattle.wire.proofs.Booleans.{either}
-use borrow.Author.Rules.{rules}
 use Rattle.exchange.proofs.Exchange.has_opened_length.Goals as goal
 
 pub returns-then-length-tag : goal.returns-then-length-tag

@@ -2,7 +2,6 @@
 -- Assumes nothing.
 use borrow.Author.Tests.{eq-eqb, ne_eqb}
 use Rattle.exchange.specs.Exchange.{closed_phase, left_in}
-use borrow.Author.Rules.{rules}
 use Rattle.exchange.proofs.Exchange.left_in.Goals as goal
 
 pub returns-then-phase-eq-CLOSED : goal.returns-then-phase-eq-CLOSED

@@ -1,6 +1,5 @@
 -- `exchange::Exchange::lengths_hold` meets its contract, case by case.
 -- Assumes nothing.
-use borrow.Author.Rules.{rules}
 use Rattle.exchange.proofs.Exchange.lengths_hold.Goals as goal
 
 pub returns-in-Open : goal.returns-in-Open

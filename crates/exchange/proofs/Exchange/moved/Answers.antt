@@ -8,7 +8,6 @@ use Rattle.wire.proofs.Writes.{front_first, front_more}
 use Rattle.wire.proofs.Numbers.{unless-refused}
 use Rattle.exchange.specs.declared.StepAnswer.{StepAnswer}
 use Rattle.exchange.proofs.Lengths.{Accepted, accepted_by, own_accepted, answer_refused}
-use borrow.Author.Rules.{rules}
 use Rattle.exchange.proofs.Exchange.moved.Goals as goal
 use Rattle.exchange.proofs.Exchange.moved.Goals.{Else-number-ne0}
 

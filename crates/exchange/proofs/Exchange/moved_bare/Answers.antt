@@ -1,7 +1,6 @@
 -- `exchange::Exchange::moved_bare` meets its contract: the next state, and all as it was where a number refuses.
 -- Assumes nothing.
 use mathlib.Core.Path.{sym, ap, ◌∙◌}
-use borrow.Author.Rules.{rules}
 use Rattle.wire.proofs.Numbers.{unless-refused}
 use Rattle.exchange.specs.declared.StepAnswer.{StepAnswer}
 use Rattle.exchange.proofs.Lengths.{Accepted, accepted_by, own_accepted, answer_refused}

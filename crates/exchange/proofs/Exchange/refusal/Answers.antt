@@ -5,11 +5,10 @@ use Prim.Native.Nat.{◌+◌}
 use mathlib.Core.Bool.{not}
 use native.Mathlib.Omega.{arith}
 use lib.Dec.{ltb}
-use borrow.Author.Tests.{not-true, not-false, lt-ltb, le-ltb}
+use borrow.Author.Tests.{lt-ltb, le-ltb}
 use Rattle.wire.specs.Refusals.{◌when◌otherwise◌}
 use Rattle.exchange.specs.Steps.{refusal_by, lengths_hold}
 use Rattle.exchange.specs.Moved.{of_ticket}
-use borrow.Author.Rules.{rules}
 use Rattle.exchange.proofs.Exchange.refusal.Goals as goal
 use Rattle.exchange.proofs.Exchange.refusal.Goals.{Else-not-allows, Else-not-lengths_hold}
 

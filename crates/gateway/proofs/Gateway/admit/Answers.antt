@@ -3,7 +3,6 @@
 use mathlib.Core.Path.{ap, ◌∙◌}
 use Prim.Native.Nat.{ℕ}
 use native.Mathlib.Omega.{arith}
-use borrow.Author.Rules.{rules}
 use Rattle.exchange.specs.declared.Ticket.{Ticket}
 use Rattle.keys.specs.declared.KeyPlace.{KeyPlace}
 use Rattle.keys.specs.Keys.{keys_of}

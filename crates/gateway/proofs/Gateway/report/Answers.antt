@@ -1,7 +1,6 @@
 -- `gateway::Gateway::report` meets its contract.
 -- Assumes nothing.
 use mathlib.Core.Path.{refl}
-use borrow.Author.Rules.{rules}
 use Rattle.gateway.specs.Gateway.{gateway_does}
 use Rattle.gateway.proofs.Gateway.report.Goals as goal
 

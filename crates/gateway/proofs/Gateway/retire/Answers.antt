@@ -1,7 +1,6 @@
 -- `gateway::Gateway::retire` meets its contract: what retire leaves of the key is put in its place.
 -- Assumes nothing.
 use mathlib.Core.Path.{ap, ◌∙◌}
-use borrow.Author.Rules.{rules}
 use Rattle.gateway.specs.Calls.{of_retire}
 use Rattle.gateway.proofs.Lengths.{full_keys}
 use Rattle.gateway.proofs.Results.{retired, put-key}

@@ -1,9 +1,7 @@
 -- `gateway::Gateway::setup` meets its contract: 15 by the list's check, 17 by the cap, else the list's keys.
 -- Assumes nothing.
 use mathlib.Core.Path.{◌≡◌, sym, ap, ◌∙◌}
-use Prim.Native.Nat.{◌-◌}
 use borrow.Author.Tests.{le-leb, lt-leb}
-use borrow.Author.Rules.{rules}
 use mathlib.Core.Bool.{true}
 use Rattle.keylist.specs.Layout.{parse}
 use Rattle.keys.specs.declared.KeysRead.{KeysRead}

@@ -1,7 +1,6 @@
 -- `gateway::Gateway::step` meets its contract: what the call leaves of the exchange is put in its place.
 -- Assumes nothing.
 use mathlib.Core.Path.{ap, ◌∙◌}
-use borrow.Author.Rules.{rules}
 use Rattle.exchange.specs.Steps.{step}
 use Rattle.gateway.specs.Calls.{of_step}
 use Rattle.gateway.proofs.Lengths.{full_table}

@@ -1,6 +1,5 @@
 -- `gateway::admission::is_key_problem` meets its contract.
 -- Assumes nothing.
-use Prim.Native.Nat.{◌-◌}
 use borrow.Author.Tests.{le-leb, lt-leb}
 use Rattle.gateway.proofs.admission.is_key_problem.Goals as goal
 

@@ -1,9 +1,8 @@
 -- `gateway::admission::next_ticket` meets its contract.
 -- Assumes nothing.
 use mathlib.Core.Path.{ap}
-use Prim.Native.Nat.{ℕ, ◌-◌}
+use Prim.Native.Nat.{ℕ}
 use native.Mathlib.Omega.{arith}
-use borrow.Author.Rules.{rules}
 use Rattle.gateway.proofs.admission.next_ticket.Goals as goal
 
 pub returns-then-last-lt18446744073709551615 : goal.returns-then-last-lt18446744073709551615

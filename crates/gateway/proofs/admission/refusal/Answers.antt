@@ -1,8 +1,7 @@
 -- `gateway::admission::refusal` meets its contract: the first number that is not 0.
 -- Assumes nothing.
 use mathlib.Core.Path.{sym}
-use Prim.Native.Nat.{◌-◌}
-use borrow.Author.Tests.{lt-ltb, le-ltb, not-true, not-false}
+use borrow.Author.Tests.{lt-ltb, le-ltb}
 use Rattle.gateway.proofs.Deciding.{first_number}
 use Rattle.gateway.proofs.admission.refusal.Goals as goal
 

@@ -1,6 +1,5 @@
 -- `gateway::admission::status` meets its contract.
 -- Assumes nothing.
-use Prim.Native.Nat.{◌-◌}
 use borrow.Author.Tests.{ne_eqb}
 use Rattle.gateway.proofs.admission.status.Goals as goal
 

@@ -3,7 +3,6 @@
 use mathlib.Core.Path.{◌≡◌, refl, sym, ap, ◌∙◌}
 use mathlib.Core.List.{List}
 use Prim.Native.Nat.{ℕ}
-use borrow.Author.Rules.{rules}
 use Rattle.wire.specs.Helpers.{overwritten}
 use Rattle.wire.proofs.Numbers.{unless-refused}
 use Rattle.gateway.specs.declared.AdmitAnswer.{AdmitAnswer}

@@ -1,7 +1,6 @@
 -- `gateway::change::nothing` meets its contract: what it puts at a place is what is there.
 -- Assumes nothing.
 use native.Mathlib.Omega.{arith}
-use borrow.Author.Rules.{rules}
 use lib.Seq.{set-get_or}
 use Rattle.exchange.specs.Exchange.{free}
 use Rattle.keys.proofs.Stored.{unread}

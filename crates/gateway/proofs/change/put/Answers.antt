@@ -1,7 +1,6 @@
 -- `gateway::change::put` meets its contract: its parts are those of the change.
 -- Assumes nothing.
 use mathlib.Core.Path.{refl}
-use borrow.Author.Rules.{rules}
 use Rattle.gateway.proofs.change.put.Goals as goal
 
 pub returns : goal.returns

@@ -1,7 +1,6 @@
 -- `gateway::change::retire` meets its contract.
 -- Assumes nothing.
 use mathlib.Core.Path.{refl, ap, ◌∙◌}
-use borrow.Author.Rules.{rules}
 use Rattle.wire.proofs.Numbers.{unless-refused}
 use Rattle.gateway.specs.declared.RetireAnswer.{RetireAnswer}
 use Rattle.gateway.proofs.Answers.{retire_refused}

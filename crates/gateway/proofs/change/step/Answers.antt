@@ -1,7 +1,6 @@
 -- `gateway::change::step` meets its contract: the exchange that was found, moved, and put in its place.
 -- Assumes nothing.
 use mathlib.Core.Path.{refl}
-use borrow.Author.Rules.{rules}
 use Rattle.gateway.proofs.change.step.Goals as goal
 
 pub returns : goal.returns

@@ -3,7 +3,6 @@
 use mathlib.Core.Path.{sym}
 use native.Mathlib.Omega.{arith}
 use lib.Seq.{set_out}
-use borrow.Author.Rules.{rules}
 use Rattle.gateway.proofs.change.with_exchange.Goals as goal
 
 pub returns-then-place-ge-TABLE_SIZE : goal.returns-then-place-ge-TABLE_SIZE

@@ -4,7 +4,6 @@ use mathlib.Core.Path.{sym}
 use native.Mathlib.Omega.{arith}
 use lib.Seq.{set_out}
 use Rattle.keys.proofs.Stored.{full}
-use borrow.Author.Rules.{rules}
 use Rattle.gateway.proofs.change.with_key.Goals as goal
 
 pub returns-then-place-ge-MOST_CONFIGURATIONS : goal.returns-then-place-ge-MOST_CONFIGURATIONS

@@ -1,13 +1,12 @@
 -- `gateway::table::count_pending` meets its contract. The loop's invariant: the count and what is pending in the rest is all.
 -- Assumes nothing.
 use mathlib.Core.Path.{◌≡◌}
-use Prim.Native.Nat.{◌+◌, ◌-◌, ◌≤◌}
+use Prim.Native.Nat.{◌+◌}
 use native.Mathlib.Omega.{arith}
 use native.Mathlib.Nat.{zero-add}
 use borrow.Author.Rules.{rules}
 use lib.ListN.{length, get_or, drop, drop_of_length-le}
 use Rattle.wire.specs.Search.{filtered}
-use Rattle.gateway.specs.View.{pending_in}
 use Rattle.gateway.specs.Registry.{table_size}
 use mathlib.Core.List.{[], ◌∷◌}
 use native.Mathlib.Numerals.{add-one}

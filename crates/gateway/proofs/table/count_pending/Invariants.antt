@@ -2,18 +2,9 @@
 -- Assumes nothing.
 use mathlib.Core.Path.{◌≡◌}
 use Prim.Native.Nat.{◌+◌, ◌-◌, ◌≤◌}
-use native.Mathlib.Omega.{arith}
-use native.Mathlib.Nat.{zero-add}
-use borrow.Author.Rules.{rules}
-use lib.ListN.{length, get_or, drop, drop_of_length-le}
-use Rattle.wire.specs.Search.{filtered}
+use lib.ListN.{length, drop}
 use Rattle.gateway.specs.View.{pending_in}
 use Rattle.gateway.specs.Registry.{table_size}
-use mathlib.Core.List.{[], ◌∷◌}
-use native.Mathlib.Numerals.{add-one}
-use lib.Seq.{drop-cons}
-use Rattle.exchange.specs.Exchange.{free}
-use Rattle.gateway.proofs.Places.{pending_more}
 use Rattle.gateway.proofs.table.count_pending.Given as goal
 
 abbrev pub invariant-loop-at : goal.invariant-loop-at

@@ -1,20 +1,13 @@
 -- `gateway::table::find` meets its contract: at home where the engine takes it, else where the first is. The loop's invariant: no place before has the
 -- number.
 -- Assumes nothing.
-use mathlib.Core.Path.{◌≡◌, refl, sym, ◌∙◌}
+use mathlib.Core.Path.{◌≡◌}
 use mathlib.Core.Bool.{false}
-use Prim.Native.Nat.{ℕ, ◌-◌, ◌%◌, ◌≤◌, ◌<◌}
-use native.Mathlib.Omega.{arith}
-use borrow.Author.Count.{below_none, below_more}
-use borrow.Author.Rules.{rules}
-use borrow.Author.Tests.{eq-eqb, ne_eqb, lt-ltb}
-use lib.ListN.{length, get_or}
-use Rattle.wire.specs.Search.{first_place}
-use Rattle.wire.proofs.Matches.{first_at, first_none}
+use Prim.Native.Nat.{ℕ, ◌-◌, ◌≤◌, ◌<◌}
+use lib.ListN.{get_or}
 use Rattle.exchange.specs.Exchange.{free}
-use Rattle.gateway.specs.Engines.{place_by, has_number}
+use Rattle.gateway.specs.Engines.{has_number}
 use Rattle.gateway.specs.Registry.{table_size}
-use Rattle.gateway.proofs.Places.{home_taken, home_passed}
 use Rattle.gateway.proofs.table.find.Given as goal
 
 abbrev pub invariant-loop-place : goal.invariant-loop-place

@@ -4,7 +4,7 @@
 use native.Mathlib.Nat.{add-zero}
 use native.Mathlib.Numerals.{add-one}
 use mathlib.Core.List.{[], ◌∷◌, ◌++◌}
-use lib.ListN.{length-take, length-set, length, take, set}
+use lib.ListN.{length-take, length-set, take, set}
 use lib.Seq.{take-suc-set}
 use Rattle.keylist.proofs.Parsing.{parse_end, parse_fault, parse_skip, parse_more, parse_some, parse_none, counted, counted_none, counted_read, counted_skip, holding, skips_from, skips_end, skips_one, skips_none, skipped_by_key, good_by_key, some_more}
 use Rattle.keylist.proofs.LayoutLaws.{field_from_start, skipped, held_not_skipped}
@@ -14,9 +14,8 @@ use Rattle.keylist.specs.declared.Checked.{Checked}
 use Rattle.keylist.specs.Answers.{checked}
 use Rattle.keylist.specs.Layout.{fault_of, key_end, key_id_at, kem_at, parse_from, refused_for}
 use mathlib.Core.Path.{◌≡◌, refl, sym, ◌∙◌, ap, ap₂}
-use Prim.Native.Nat.{ℕ, suc, ◌+◌, ◌-◌, ◌≤◌}
+use Prim.Native.Nat.{ℕ, suc, ◌+◌, ◌-◌}
 use native.Mathlib.Omega.{arith}
-use borrow.Author.Rules.{rules}
 use Rattle.keylist.proofs.check.check.Goals as goal
 use Rattle.keylist.proofs.check.check.Goals.{After-key_length-key, Else-number-ne0}
 

@@ -6,8 +6,6 @@ use Rattle.keylist.specs.Layout.{fault_of, pair_bytes_at, pair_bytes_hold}
 use Rattle.keylist.proofs.LayoutLaws.{fault_too_many, fault_cut, fault_short, fault_skipped, fault_before_pairs, fault_pairs, fault_disagrees, fault_by_id}
 use mathlib.Core.Path.{◌≡◌, sym, ◌∙◌}
 use native.Mathlib.Omega.{arith}
-use borrow.Author.Rules.{rules}
-use borrow.Author.Tests.{not-true, not-false}
 use Rattle.keylist.proofs.check.fault.Goals as goal
 use Rattle.keylist.proofs.check.fault.Goals.{After-has_byte, After-word_at-pair_bytes, Else-not-pair_bytes_hold}
 

@@ -5,10 +5,8 @@ use mathlib.Core.Path.{◌≡◌, refl, sym, ◌∙◌}
 use mathlib.Core.Bool.{true}
 use Prim.Native.Nat.{suc, ◌-◌}
 use native.Mathlib.Omega.{arith}
-use borrow.Author.Rules.{rules}
-use borrow.Author.Tests.{not-true, not-false}
 use Rattle.keylist.specs.Layout.{is_skipped}
-use Rattle.keylist.specs.Helpers.{first_read, read_from}
+use Rattle.keylist.specs.Helpers.{read_from}
 use Rattle.keylist.proofs.Walk.{read_skip, read_here}
 use Rattle.keylist.proofs.LayoutLaws.{skipped}
 use Rattle.keylist.proofs.check.first_read.Goals as goal

@@ -1,16 +1,8 @@
 -- `keylist::check::first_read` meets its contract. The loop's invariant: what is sought is sought from the offset on, where so many more
 -- may be skipped. The measure is that number.
 -- Assumes nothing.
-use mathlib.Core.Path.{◌≡◌, refl, sym, ◌∙◌}
-use mathlib.Core.Bool.{true}
-use Prim.Native.Nat.{suc, ◌-◌}
-use native.Mathlib.Omega.{arith}
-use borrow.Author.Rules.{rules}
-use borrow.Author.Tests.{not-true, not-false}
-use Rattle.keylist.specs.Layout.{is_skipped}
+use mathlib.Core.Path.{◌≡◌}
 use Rattle.keylist.specs.Helpers.{first_read, read_from}
-use Rattle.keylist.proofs.Walk.{read_skip, read_here}
-use Rattle.keylist.proofs.LayoutLaws.{skipped}
 use Rattle.keylist.proofs.check.first_read.Given as goal
 
 abbrev pub invariant-loop-more : goal.invariant-loop-more

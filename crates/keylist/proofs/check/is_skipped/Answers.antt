@@ -3,7 +3,6 @@
 use Rattle.keylist.proofs.LayoutLaws.{skips_not_whole, skips_not_short, skips_by_kem}
 use mathlib.Core.Path.{sym}
 use native.Mathlib.Omega.{arith}
-use borrow.Author.Rules.{rules}
 use Rattle.keylist.proofs.check.is_skipped.Goals as goal
 
 pub returns : goal.returns

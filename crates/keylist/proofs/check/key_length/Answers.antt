@@ -5,7 +5,6 @@ use Rattle.algorithms.proofs.Stated.{size_bounds}
 use Rattle.algorithms.proofs.Answers.{known, unknown}
 use mathlib.Core.Path.{sym, ◌∙◌}
 use native.Mathlib.Omega.{arith}
-use borrow.Author.Rules.{rules}
 use Rattle.keylist.proofs.check.key_length.Goals as goal
 
 pub returns-in-Bytes : goal.returns-in-Bytes

@@ -1,7 +1,6 @@
 -- `keylist::check::place_at` meets its contract.
 -- Assumes nothing.
 use borrow.Author.Tests.{lt-ltb, le-ltb}
-use borrow.Author.Rules.{rules}
 use Rattle.keylist.proofs.check.place_at.Goals as goal
 
 pub returns-then-list-at : goal.returns-then-list-at

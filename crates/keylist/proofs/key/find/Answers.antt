@@ -3,7 +3,6 @@
 use Rattle.keylist.proofs.Walk.{checked_good, checked_bad}
 use Rattle.keylist.specs.Layout.{parse}
 use mathlib.Core.Path.{sym, ◌∙◌}
-use borrow.Author.Rules.{rules}
 use Rattle.keylist.proofs.key.find.Goals as goal
 
 pub find_in_good-requires : goal.find_in_good-requires

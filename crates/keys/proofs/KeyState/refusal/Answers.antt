@@ -1,8 +1,7 @@
 -- `keys::KeyState::refusal` meets its contract: one return for each refusal in 01's order, and 0.
 -- Assumes nothing.
 use mathlib.Core.Path.{◌≡◌}
-use borrow.Author.Rules.{rules}
-use borrow.Author.Tests.{le-leb, lt-leb, ne_eqb, eq-eqb, not-true, not-false}
+use borrow.Author.Tests.{le-leb, lt-leb, ne_eqb, eq-eqb}
 use lib.Dec.{leb}
 use Rattle.wire.specs.Refusals.{◌when◌otherwise◌}
 use Rattle.keys.specs.Helpers.{key_refusal, given}

@@ -1,6 +1,6 @@
 -- `keys::KeyState::retire_refusal` meets its contract: one return for each refusal, and 0.
 -- Assumes nothing.
-use borrow.Author.Tests.{ne_eqb, eq-eqb, not-true, not-false}
+use borrow.Author.Tests.{ne_eqb, eq-eqb}
 use Rattle.keys.specs.Helpers.{retire_refusal_at}
 use Rattle.keys.proofs.KeyState.retire_refusal.Goals as goal
 

@@ -1,6 +1,5 @@
 -- `keys::KeyState::used` meets its contract.
 -- Assumes nothing.
-use borrow.Author.Rules.{rules}
 use Rattle.keys.proofs.KeyState.used.Goals as goal
 
 pub returns : goal.returns

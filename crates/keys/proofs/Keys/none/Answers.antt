@@ -1,6 +1,5 @@
 -- `keys::Keys::none` meets its contract.
 -- Assumes nothing.
-use borrow.Author.Rules.{rules}
 use Rattle.keys.specs.Stored.{stored_keys}
 use Rattle.keys.proofs.Keys.none.Goals as goal
 

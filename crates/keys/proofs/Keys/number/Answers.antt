@@ -1,7 +1,6 @@
 -- `keys::Keys::number` meets its contract: as many keys as are counted, or as there is room for.
 -- Assumes nothing.
 use native.Mathlib.Omega.{arith}
-use borrow.Author.Rules.{rules}
 use Rattle.keys.proofs.Stored.{full, length_keys}
 use Rattle.keys.proofs.Keys.number.Goals as goal
 

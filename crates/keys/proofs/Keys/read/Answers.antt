@@ -1,7 +1,6 @@
 -- `keys::Keys::read` meets its contract: the keys of a list that check calls good, and none of one that it refuses.
 -- Assumes nothing.
 use mathlib.Core.Path.{sym, ◌∙◌}
-use borrow.Author.Rules.{rules}
 use Rattle.keylist.specs.Layout.{parse}
 use Rattle.keylist.proofs.Walk.{checked_good, checked_bad}
 use Rattle.keys.specs.Helpers.{keys_from}

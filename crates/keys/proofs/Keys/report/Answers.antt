@@ -1,11 +1,10 @@
 -- `keys::Keys::report` meets its contract. The loop's invariant: the reports of the keys passed stand first in the array.
 -- Assumes nothing.
 use mathlib.Core.Path.{◌≡◌, refl, ◌∙◌}
-use Prim.Native.Nat.{◌-◌, ◌≤◌, min}
+use Prim.Native.Nat.{min}
 use native.Mathlib.Omega.{arith}
-use borrow.Author.Rules.{rules}
 use Rattle.keys.specs.Keys.{stored_reports, keys_of}
-use Rattle.keys.proofs.Stored.{full, reports_of, reports_more, reports_all}
+use Rattle.keys.proofs.Stored.{full, reports_more, reports_all}
 use Rattle.keys.proofs.Keys.report.Goals as goal
 use Rattle.keys.proofs.Keys.report.Goals.{At-loop-at}
 

@@ -1,7 +1,6 @@
 -- `results::by_value::admit` meets its contract.
 -- Assumes nothing.
 use mathlib.Core.Path.{ap, ◌∙◌}
-use borrow.Author.Rules.{rules}
 use Rattle.results.specs.Calls.{admit_result}
 use Rattle.results.proofs.by_value.admit.Goals as goal
 

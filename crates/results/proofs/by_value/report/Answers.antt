@@ -1,7 +1,6 @@
 -- `results::by_value::report` meets its contract.
 -- Assumes nothing.
 use mathlib.Core.Path.{refl, ap, ◌∙◌}
-use borrow.Author.Rules.{rules}
 use Rattle.gateway.specs.Gateway.{gateway_does}
 use Rattle.results.specs.Calls.{report_result}
 use Rattle.results.proofs.by_value.report.Goals as goal

@@ -1,7 +1,6 @@
 -- `results::by_value::retire` meets its contract.
 -- Assumes nothing.
 use mathlib.Core.Path.{refl, ap, ◌∙◌}
-use borrow.Author.Rules.{rules}
 use Rattle.gateway.specs.Gateway.{gateway_does}
 use Rattle.results.specs.Calls.{outcome_of}
 use Rattle.results.proofs.by_value.retire.Goals as goal

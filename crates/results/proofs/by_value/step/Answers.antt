@@ -1,7 +1,6 @@
 -- `results::by_value::step` meets its contract.
 -- Assumes nothing.
 use mathlib.Core.Path.{ap, ◌∙◌}
-use borrow.Author.Rules.{rules}
 use Rattle.results.specs.Calls.{step_result}
 use Rattle.results.proofs.by_value.step.Goals as goal
 

@@ -1,6 +1,5 @@
 -- `results::client_calls::choose_result` meets its contract.
 -- Assumes nothing.
-use borrow.Author.Rules.{rules}
 use Rattle.results.proofs.client_calls.choose_result.Goals as goal
 
 pub returns-in-Usable : goal.returns-in-Usable

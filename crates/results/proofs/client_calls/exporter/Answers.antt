@@ -14,7 +14,6 @@ use Rattle.algorithms.specs.Sizes.{known_aead}
 use Rattle.results.specs.Client.{exporter_refusal}
 use Rattle.results.specs.Outcome.{refused_two_numbers}
 use Rattle.results.proofs.Exporter.{exporter_refused, exporter_accepted}
-use borrow.Author.Rules.{rules}
 use Rattle.results.proofs.client_calls.exporter.Goals as goal
 use Rattle.results.proofs.client_calls.exporter.Goals.{Else-number-ne0}
 

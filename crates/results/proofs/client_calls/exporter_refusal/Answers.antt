@@ -1,10 +1,9 @@
 -- `results::client_calls::exporter_refusal` meets its contract.
 -- Assumes nothing.
-use borrow.Author.Tests.{not-true, not-false, lt-ltb, le-ltb}
+use borrow.Author.Tests.{lt-ltb, le-ltb}
 use Rattle.wire.specs.Texts.{ascii}
 use Rattle.wire.specs.Exporter.{exporter_context}
 use Rattle.results.specs.Client.{exporter_refusal}
-use borrow.Author.Rules.{rules}
 use Rattle.results.proofs.client_calls.exporter_refusal.Goals as goal
 
 pub returns-then-not-is_known : goal.returns-then-not-is_known

@@ -1,6 +1,5 @@
 -- `results::client_calls::head_result` meets its contract.
 -- Assumes nothing.
-use borrow.Author.Rules.{rules}
 use Rattle.results.proofs.client_calls.head_result.Goals as goal
 
 pub returns-in-Length : goal.returns-in-Length

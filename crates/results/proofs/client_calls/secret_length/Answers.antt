@@ -5,7 +5,6 @@ use Rattle.wire.proofs.Booleans.{true_or_false}
 use Rattle.algorithms.specs.Sizes.{known_aead}
 use Rattle.algorithms.specs.Answers.{secret_length}
 use Rattle.algorithms.proofs.Answers.{known, unknown}
-use borrow.Author.Rules.{rules}
 use Rattle.results.proofs.client_calls.secret_length.Goals as goal
 
 pub returns-in-Bytes : goal.returns-in-Bytes

@@ -1,6 +1,5 @@
 -- `results::client_calls::split_result` meets its contract.
 -- Assumes nothing.
-use borrow.Author.Rules.{rules}
 use Rattle.results.proofs.client_calls.split_result.Goals as goal
 
 pub returns-in-NonceEnd : goal.returns-in-NonceEnd

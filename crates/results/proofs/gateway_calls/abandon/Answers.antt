@@ -1,7 +1,6 @@
 -- `results::gateway_calls::abandon` meets its contract.
 -- Assumes nothing.
 use mathlib.Core.Path.{ap}
-use borrow.Author.Rules.{rules}
 use Rattle.results.specs.declared.outcome.NumberResult.{NumberResult}
 use Rattle.results.proofs.gateway_calls.abandon.Goals as goal
 

@@ -1,7 +1,6 @@
 -- `results::gateway_calls::admit` meets its contract.
 -- Assumes nothing.
 use mathlib.Core.Path.{ap, ◌∙◌}
-use borrow.Author.Rules.{rules}
 use Rattle.gateway.specs.Calls.{of_admit}
 use Rattle.gateway.specs.declared.AdmitAnswer.{AdmitAnswer}
 use Rattle.results.specs.Calls.{admit_result}

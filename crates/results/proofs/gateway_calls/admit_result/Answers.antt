@@ -1,6 +1,5 @@
 -- `results::gateway_calls::admit_result` meets its contract.
 -- Assumes nothing.
-use borrow.Author.Rules.{rules}
 use Rattle.results.proofs.gateway_calls.admit_result.Goals as goal
 
 pub returns-in-Admitted : goal.returns-in-Admitted

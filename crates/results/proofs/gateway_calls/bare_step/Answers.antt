@@ -3,7 +3,6 @@
 use mathlib.Core.Path.{◌≡◌, refl, ap, ◌∙◌}
 use mathlib.Core.List.{[]}
 use Prim.Native.Nat.{ℕ, zero, suc}
-use borrow.Author.Rules.{rules}
 use Rattle.wire.specs.Refusals.{written}
 use Rattle.exchange.specs.Steps.{bare, refusal}
 use Rattle.exchange.specs.Moved.{of_ticket}

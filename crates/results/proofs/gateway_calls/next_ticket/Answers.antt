@@ -1,7 +1,6 @@
 -- `results::gateway_calls::next_ticket` meets its contract.
 -- Assumes nothing.
 use mathlib.Core.Path.{ap}
-use borrow.Author.Rules.{rules}
 use Rattle.exchange.specs.declared.Ticket.{Ticket}
 use Rattle.results.proofs.gateway_calls.next_ticket.Goals as goal
 

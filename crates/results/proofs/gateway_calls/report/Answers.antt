@@ -1,6 +1,5 @@
 -- `results::gateway_calls::report` meets its contract.
 -- Assumes nothing.
-use borrow.Author.Rules.{rules}
 use Rattle.results.proofs.gateway_calls.report.Goals as goal
 
 pub returns : goal.returns

@@ -1,6 +1,5 @@
 -- `results::gateway_calls::report_result` meets its contract.
 -- Assumes nothing.
-use borrow.Author.Rules.{rules}
 use Rattle.results.proofs.gateway_calls.report_result.Goals as goal
 
 pub returns : goal.returns

@@ -1,7 +1,6 @@
 -- `results::gateway_calls::retire` meets its contract.
 -- Assumes nothing.
 use mathlib.Core.Path.{ap, ◌∙◌}
-use borrow.Author.Rules.{rules}
 use Rattle.gateway.specs.Calls.{of_retire}
 use Rattle.gateway.specs.declared.RetireAnswer.{RetireAnswer}
 use Rattle.results.specs.Calls.{outcome_of}

@@ -1,6 +1,5 @@
 -- `results::gateway_calls::retire_result` meets its contract.
 -- Assumes nothing.
-use borrow.Author.Rules.{rules}
 use Rattle.results.proofs.gateway_calls.retire_result.Goals as goal
 
 pub returns-in-Retired : goal.returns-in-Retired

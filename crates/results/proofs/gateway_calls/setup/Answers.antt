@@ -2,7 +2,6 @@
 -- Assumes nothing.
 use mathlib.Core.Path.{ap, ◌∙◌}
 use Rattle.results.specs.Calls.{setup_result}
-use borrow.Author.Rules.{rules}
 use Rattle.results.proofs.gateway_calls.setup.Goals as goal
 
 pub returns : goal.returns

@@ -1,7 +1,6 @@
 -- `results::gateway_calls::step` meets its contract.
 -- Assumes nothing.
 use mathlib.Core.Path.{ap, ◌∙◌}
-use borrow.Author.Rules.{rules}
 use Rattle.results.specs.Calls.{ticket_result}
 use Rattle.results.proofs.gateway_calls.step.Goals as goal
 

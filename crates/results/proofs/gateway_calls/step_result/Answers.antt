@@ -1,6 +1,5 @@
 -- `results::gateway_calls::step_result` meets its contract.
 -- Assumes nothing.
-use borrow.Author.Rules.{rules}
 use Rattle.results.proofs.gateway_calls.step_result.Goals as goal
 
 pub returns-in-Opened : goal.returns-in-Opened

@@ -1,6 +1,5 @@
 -- `results::list_calls::check_result` meets its contract.
 -- Assumes nothing.
-use borrow.Author.Rules.{rules}
 use Rattle.results.proofs.list_calls.check_result.Goals as goal
 
 pub returns-in-Good : goal.returns-in-Good

@@ -1,6 +1,5 @@
 -- `results::list_calls::key_result` meets its contract.
 -- Assumes nothing.
-use borrow.Author.Rules.{rules}
 use Rattle.results.proofs.list_calls.key_result.Goals as goal
 
 pub returns-in-Found : goal.returns-in-Found

@@ -1,6 +1,5 @@
 -- `results::list_calls::write_result` meets its contract.
 -- Assumes nothing.
-use borrow.Author.Rules.{rules}
 use Rattle.results.proofs.list_calls.write_result.Goals as goal
 
 pub returns-in-Length : goal.returns-in-Length

@@ -1,6 +1,5 @@
 -- `results::message_calls::part_result` meets its contract.
 -- Assumes nothing.
-use borrow.Author.Rules.{rules}
 use Rattle.results.proofs.message_calls.part_result.Goals as goal
 
 pub returns-in-Found : goal.returns-in-Found

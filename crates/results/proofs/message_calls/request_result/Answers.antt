@@ -1,6 +1,5 @@
 -- `results::message_calls::request_result` meets its contract.
 -- Assumes nothing.
-use borrow.Author.Rules.{rules}
 use Rattle.results.proofs.message_calls.request_result.Goals as goal
 
 pub returns-in-Good : goal.returns-in-Good

@@ -1,6 +1,5 @@
 -- `sealwax::client_lines::put_numbers` is safe and ends. The measure is how many numbers are left.
 -- Assumes nothing.
-use Rattle.std.proofs.Common.{rules}
 use Rattle.sealwax.proofs.client_lines.put_numbers.Given as goal
 
 abbrev pub invariant-loop-left : goal.invariant-loop-left

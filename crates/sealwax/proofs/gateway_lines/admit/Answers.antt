@@ -1,6 +1,6 @@
 -- `sealwax::gateway_lines::admit` meets its contract: what it puts into the gateway is what the call changes, with the buffer that was lent.
 -- Assumes nothing.
-use Rattle.std.proofs.Common.{◌∙◌, rules}
+use Rattle.std.proofs.Common.{◌∙◌}
 use Rattle.sealwax.proofs.Lending.{part_filled}
 use Rattle.sealwax.proofs.gateway_lines.admit.Goals as goal
 

@@ -1,6 +1,6 @@
 -- `sealwax::gateway_lines::answer` meets its contract: each call's gateway is what the function of its line hands back.
 -- Assumes nothing.
-use Rattle.std.proofs.Common.{refl, rules}
+use Rattle.std.proofs.Common.{refl}
 use Rattle.gateway.specs.Gateway.{gateway_does}
 use Rattle.sealwax.proofs.gateway_lines.answer.Goals as goal
 

@@ -1,6 +1,6 @@
 -- `sealwax::gateway_lines::put_keys` is safe and ends. The measure is how many keys are left.
 -- Assumes nothing.
-use Rattle.std.proofs.Common.{◌-◌, rules}
+use Rattle.std.proofs.Common.{◌-◌}
 use Rattle.sealwax.proofs.gateway_lines.put_keys.Given as goal
 
 abbrev pub invariant-loop-done : goal.invariant-loop-done

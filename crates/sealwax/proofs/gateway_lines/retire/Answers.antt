@@ -1,6 +1,6 @@
 -- `sealwax::gateway_lines::retire` meets its contract: what it puts into the gateway is what the call changes.
 -- Assumes nothing.
-use Rattle.std.proofs.Common.{◌∙◌, rules}
+use Rattle.std.proofs.Common.{◌∙◌}
 use Rattle.sealwax.proofs.gateway_lines.retire.Goals as goal
 
 pub returns : goal.returns

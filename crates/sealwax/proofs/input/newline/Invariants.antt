@@ -1,6 +1,6 @@
 -- `sealwax::input::newline` is safe and ends. The measure is how many bytes are left.
 -- Assumes nothing.
-use Rattle.std.proofs.Common.{◌-◌, rules}
+use Rattle.std.proofs.Common.{◌-◌}
 use Rattle.sealwax.proofs.input.newline.Given as goal
 
 abbrev pub invariant-loop-at : goal.invariant-loop-at

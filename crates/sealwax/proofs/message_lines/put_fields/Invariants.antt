@@ -1,6 +1,5 @@
 -- `sealwax::message_lines::put_fields` is safe and ends. The measure is how many fields are left.
 -- Assumes nothing.
-use Rattle.std.proofs.Common.{rules}
 use Rattle.sealwax.proofs.message_lines.put_fields.Given as goal
 
 abbrev pub invariant-loop-left : goal.invariant-loop-left

@@ -1,6 +1,6 @@
 -- `sealwax::text::put` is safe and ends. The measure is how many bytes are left.
 -- Assumes nothing.
-use Rattle.std.proofs.Common.{◌-◌, length, rules}
+use Rattle.std.proofs.Common.{◌-◌, length}
 use Rattle.sealwax.proofs.text.put.Given as goal
 
 abbrev pub invariant-loop-done : goal.invariant-loop-done

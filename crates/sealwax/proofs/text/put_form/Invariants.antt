@@ -1,6 +1,6 @@
 -- `sealwax::text::put_form` is safe and ends. The measure is how many signs are left.
 -- Assumes nothing.
-use Rattle.std.proofs.Common.{◌-◌, length, rules}
+use Rattle.std.proofs.Common.{◌-◌, length}
 use Rattle.sealwax.proofs.text.put_form.Given as goal
 
 abbrev pub invariant-loop-done : goal.invariant-loop-done

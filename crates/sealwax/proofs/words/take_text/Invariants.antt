@@ -1,6 +1,6 @@
 -- `sealwax::words::take_text` is safe and ends. The measure is how much of the line is left.
 -- Assumes nothing.
-use Rattle.std.proofs.Common.{◌-◌, length, rules}
+use Rattle.std.proofs.Common.{◌-◌, length}
 use Rattle.sealwax.proofs.words.take_text.Given as goal
 
 abbrev pub invariant-loop-place : goal.invariant-loop-place

@@ -1,14 +1,12 @@
 -- `wire::bytes::overwrite` meets its contract. The loop's invariant: so many bytes have been copied to the offset, and the rest is as it was.
 -- The measure is how many are left.
 -- Assumes nothing.
-use lib.ListN.{length-set, length}
+use lib.ListN.{length-set}
 use native.Mathlib.Numerals.{add-one}
 use Rattle.wire.proofs.Writes.{overwritten_beyond}
-use lib.Seq.{paste, paste-zero, paste-suc}
+use lib.Seq.{paste-zero, paste-suc}
 use mathlib.Core.Path.{◌≡◌, refl, sym}
-use Prim.Native.Nat.{◌-◌, ◌≤◌}
 use native.Mathlib.Omega.{arith}
-use borrow.Author.Rules.{rules}
 use Rattle.wire.proofs.bytes.overwrite.Goals as goal
 
 pub returns-then-buffer-at : goal.returns-then-buffer-at

@@ -1,14 +1,10 @@
 -- `wire::bytes::overwrite` meets its contract. The loop's invariant: so many bytes have been copied to the offset, and the rest is as it was.
 -- The measure is how many are left.
 -- Assumes nothing.
-use lib.ListN.{length-set, length}
-use native.Mathlib.Numerals.{add-one}
-use Rattle.wire.proofs.Writes.{overwritten_beyond}
-use lib.Seq.{paste, paste-zero, paste-suc}
-use mathlib.Core.Path.{◌≡◌, refl, sym}
+use lib.ListN.{length}
+use lib.Seq.{paste}
+use mathlib.Core.Path.{◌≡◌}
 use Prim.Native.Nat.{◌-◌, ◌≤◌}
-use native.Mathlib.Omega.{arith}
-use borrow.Author.Rules.{rules}
 use Rattle.wire.proofs.bytes.overwrite.Given as goal
 
 abbrev pub invariant-loop-done : goal.invariant-loop-done

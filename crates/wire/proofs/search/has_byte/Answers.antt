@@ -1,10 +1,9 @@
 -- `wire::search::has_byte` meets its contract. The loop's invariant: none of the bytes passed is the one sought.
 -- Assumes nothing.
-use Rattle.wire.proofs.Matches.{among_at, among_none, NoneBefore, behind}
+use Rattle.wire.proofs.Matches.{among_at, among_none}
 use borrow.Author.Count.{below_more}
 use mathlib.Core.Path.{sym}
 use native.Mathlib.Omega.{arith}
-use borrow.Author.Rules.{rules}
 use Rattle.wire.proofs.search.has_byte.Goals as goal
 
 pub returns-then-bytes-at : goal.returns-then-bytes-at

@@ -1,10 +1,6 @@
 -- `wire::search::has_word` meets its contract. The loop's invariant: none of the numbers passed is the one sought.
 -- Assumes nothing.
-use Rattle.wire.proofs.Matches.{among_at, among_none, NoneBefore, behind}
-use borrow.Author.Count.{below_more}
-use mathlib.Core.Path.{sym}
-use native.Mathlib.Omega.{arith}
-use borrow.Author.Rules.{rules}
+use Rattle.wire.proofs.Matches.{NoneBefore, behind}
 use Rattle.wire.proofs.search.has_word.Given as goal
 
 abbrev pub invariant-loop-at : goal.invariant-loop-at

@@ -1,7 +1,5 @@
 -- `gateway::admission::Rejection::of` meets its contract.
 -- Assumes nothing.
-use Prim.Native.Nat.{◌-◌}
-use borrow.Author.Rules.{rules}
 use Rattle.gateway.proofs.admission.AdmitRefusal.of.Goals as goal
 
 pub returns : goal.returns

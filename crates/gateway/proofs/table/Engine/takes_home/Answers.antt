@@ -1,6 +1,5 @@
 -- `gateway::table::Engine::takes_home` meets its contract.
 -- Assumes nothing.
-use borrow.Author.Rules.{rules}
 use Rattle.gateway.proofs.table.Engine.takes_home.Goals as goal
 
 pub returns-in-Fast : goal.returns-in-Fast

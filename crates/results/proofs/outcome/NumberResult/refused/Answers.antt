@@ -1,6 +1,5 @@
 -- `results::outcome::NumberResult::refused` meets its contract.
 -- Assumes nothing.
-use borrow.Author.Rules.{rules}
 use Rattle.results.proofs.outcome.NumberResult.refused.Goals as goal
 
 pub returns : goal.returns

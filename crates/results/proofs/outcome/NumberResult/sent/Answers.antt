@@ -1,6 +1,5 @@
 -- `results::outcome::NumberResult::sent` meets its contract.
 -- Assumes nothing.
-use borrow.Author.Rules.{rules}
 use Rattle.results.proofs.outcome.NumberResult.sent.Goals as goal
 
 pub returns : goal.returns

@@ -1,6 +1,5 @@
 -- `results::outcome::TwoNumbersResult::of` meets its contract.
 -- Assumes nothing.
-use borrow.Author.Rules.{rules}
 use Rattle.results.proofs.outcome.TwoNumbersResult.of.Goals as goal
 
 pub returns : goal.returns

@@ -1,6 +1,5 @@
 -- `results::outcome::TwoNumbersResult::refused` meets its contract.
 -- Assumes nothing.
-use borrow.Author.Rules.{rules}
 use Rattle.results.proofs.outcome.TwoNumbersResult.refused.Goals as goal
 
 pub returns : goal.returns
