@@ -12,6 +12,7 @@ use Rattle.results.specs.contracts.gateway_calls.ReportResult
 use Rattle.results.specs.contracts.client_calls.ChooseResult
 use Rattle.results.specs.contracts.message_calls.FieldResult
 use Rattle.results.specs.contracts.message_calls.RequestResult
+use Rattle.host.specs.declared.sizes.MessageSizes.{MessageSizes}
 use Rattle.host.specs.declared.sizes.Sizes.{Sizes}
 
 -- the bytes of a value of a type, in the machine's layout
@@ -35,6 +36,12 @@ sizes =
       head = bytes_of NumberResult.the_row;
       split = bytes_of TwoNumbersResult.the_row;
       exporter = bytes_of TwoNumbersResult.the_row;
+    }
+
+-- and the result of each call on messages
+unfoldable pub message_sizes : MessageSizes
+message_sizes =
+    record {
       request = bytes_of RequestResult.the_row;
       request_part = bytes_of TwoNumbersResult.the_row;
       next_field = bytes_of FieldResult.the_row;

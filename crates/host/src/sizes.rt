@@ -1,6 +1,6 @@
 // What the library takes for its structs, so that a host's declarations can be held against it.
 ghost use Rattle.std.specs.Prelude.{◌≡◌};
-ghost use Rattle.host.specs.Sizes.{sizes};
+ghost use Rattle.host.specs.Sizes.{sizes, message_sizes};
 
 // The number of bytes of each struct: the gateway, the outcome, and the result of each call by its name.
 #[repr(C)]
@@ -20,6 +20,12 @@ pub struct Sizes {
     pub head: usize,
     pub split: usize,
     pub exporter: usize,
+}
+
+// The same of the calls on messages.
+#[repr(C)]
+#[derive(Clone, Copy)]
+pub struct MessageSizes {
     pub request: usize,
     pub request_part: usize,
     pub next_field: usize,
@@ -56,6 +62,14 @@ pub extern "C" fn sealwax_sizes() -> Sizes
         head: NUMBER,
         split: TWO_NUMBERS,
         exporter: TWO_NUMBERS,
+    }
+}
+
+#[unsafe(no_mangle)]
+pub extern "C" fn sealwax_message_sizes() -> MessageSizes
+    ensures { result ≡ message_sizes }
+{
+    MessageSizes {
         request: REQUEST,
         request_part: TWO_NUMBERS,
         next_field: FIELD,

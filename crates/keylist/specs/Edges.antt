@@ -3,7 +3,8 @@ use Rattle.std.specs.Prelude.{ℕ, ◌≡◌, length, replicate}
 use mathlib.Core.List.{List, [], ◌∷◌, ◌++◌, map, flatten}
 use Rattle.wire.specs.Refusals.{refused, refused_at}
 use Rattle.wire.specs.Bytes.{word_bytes}
-use Rattle.wire.specs.Hex.{hex}
+pub use Rattle.wire.specs.Hex.{digit}
+unfoldable pub use Rattle.wire.specs.Hex.{hex}
 use Rattle.wire.specs.Texts.{head_bytes, info_bytes}
 use Rattle.keylist.specs.Answers.{checked, key_place_in}
 use Rattle.keylist.specs.Layout.{good, parse}
