@@ -263,10 +263,14 @@ typedef struct sealwax_sizes_result {
     size_t head;
     size_t split;
     size_t exporter;
+} sealwax_sizes_result;
+
+/* The same of the calls on messages, which have come later: the struct above is as it was. */
+typedef struct sealwax_message_sizes_result {
     size_t request;
     size_t request_part;
     size_t next_field;
-} sealwax_sizes_result;
+} sealwax_message_sizes_result;
 
 /* ---- the gateway: setup and the six calls */
 
@@ -403,9 +407,12 @@ sealwax_next_field_result sealwax_next_field(const uint8_t *message, size_t sect
 /* The sizes of the structs above as the library has them. */
 sealwax_sizes_result sealwax_sizes(void);
 
+/* Those of the results of sealwax_request, sealwax_request_part and sealwax_next_field. */
+sealwax_message_sizes_result sealwax_message_sizes(void);
+
 /*
- * The sizes as this header has them. ./library compiles this header with SEALWAX_SAID_.. set to what sealwax_sizes answers, so a header
- * that does not fit the library does not compile.
+ * The sizes as this header has them. ./library compiles this header with SEALWAX_SAID_.. set to what these two answer, so a header that
+ * does not fit the library does not compile.
  */
 SEALWAX_ASSERT(sizeof(sealwax_gateway) == SEALWAX_GATEWAY_SIZE, "sealwax_gateway");
 #ifdef SEALWAX_SAID_GATEWAY

@@ -18,8 +18,9 @@ int main(void) {
     printf("-DSEALWAX_SAID_HEAD=%zu\n", said.head);
     printf("-DSEALWAX_SAID_SPLIT=%zu\n", said.split);
     printf("-DSEALWAX_SAID_EXPORTER=%zu\n", said.exporter);
-    printf("-DSEALWAX_SAID_REQUEST=%zu\n", said.request);
-    printf("-DSEALWAX_SAID_REQUEST_PART=%zu\n", said.request_part);
-    printf("-DSEALWAX_SAID_NEXT_FIELD=%zu\n", said.next_field);
+    sealwax_message_sizes_result messages = sealwax_message_sizes();
+    printf("-DSEALWAX_SAID_REQUEST=%zu\n", messages.request);
+    printf("-DSEALWAX_SAID_REQUEST_PART=%zu\n", messages.request_part);
+    printf("-DSEALWAX_SAID_NEXT_FIELD=%zu\n", messages.next_field);
     return 0;
 }

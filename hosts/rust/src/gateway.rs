@@ -74,7 +74,7 @@ impl Gateway {
     /// Refusals: 18 to 22, 17.
     pub fn setup(list: &[u8], cap: u64) -> Result<Gateway, Refusal> {
         let (memory, result) = raw::setup(list, cap);
-        Refusal::or_in(result.outcome, list, Gateway { memory })
+        Refusal::or_in_list(result.outcome, list, Gateway { memory })
     }
 
     /// A gateway without keys, which refuses every request: for a host that serves before it has a

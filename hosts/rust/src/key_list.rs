@@ -102,13 +102,13 @@ impl<'l> KeyList<'l> {
             configurations: result.configurations,
             skipped: result.skipped,
         };
-        Refusal::or_in(result.outcome, self.bytes, checked)
+        Refusal::or_in_list(result.outcome, self.bytes, checked)
     }
 
     /// The public key of a key id, a part of the list. Refusals: 18 to 22, 4.
     pub fn key(self, key_id: u8) -> Result<&'l [u8], Refusal> {
         let result = raw::key(self.bytes, key_id);
-        Refusal::or_in(result.outcome, self.bytes, ())?;
+        Refusal::or_in_list(result.outcome, self.bytes, ())?;
         Ok(&self.bytes[result.start..result.end])
     }
 
@@ -116,7 +116,7 @@ impl<'l> KeyList<'l> {
     /// KEMs and these pairs. Refusals: 18 to 22, 16.
     pub fn choose(self, kems: &[u16], pairs: &[Pair]) -> Result<Choice<'l>, Refusal> {
         let result = raw::choose(self.bytes, kems, &by_turns(pairs));
-        Refusal::or_in(result.outcome, self.bytes, ())?;
+        Refusal::or_in_list(result.outcome, self.bytes, ())?;
         Ok(Choice {
             key_id: result.key_id,
             kem: result.kem,
@@ -236,8 +236,7 @@ pub(crate) mod tests {
                 list
             })
             .collect();
-        type Damaged = (Vec<u8>, u8, usize, Option<u16>, &'static str);
-        let lists: [Damaged; 10] = [
+        let lists: [(Vec<u8>, u8, usize, Option<u16>, &str); 10] = [
             (vec![], 18, 0, None, "there is no configuration at all"),
             (
                 vec![0],

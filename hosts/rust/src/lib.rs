@@ -9,7 +9,7 @@
 //! # A whole exchange
 //!
 //! ```
-//! use sealwax::{exporter, split, Configuration, Gateway, KeyList, Pair, Request};
+//! use sealwax::{exporter, split, Configuration, Gateway, KeyList, Pair};
 //! # // Stand-ins for a host's HPKE, which keep every length as it would be.
 //! # mod hpke {
 //! #     pub fn seal(_: &[u8], _: &[u8], plain: &[u8]) -> ([u8; 32], Vec<u8>) {
@@ -21,13 +21,6 @@
 //! #     pub fn export(_: &[u8], length: usize) -> Vec<u8> {
 //! #         vec![0x66; length]
 //! #     }
-//! # }
-//! # fn ask_target(request: &Request) -> Vec<u8> {
-//! #     assert_eq!((request.method(), request.path()), (&b"GET"[..], &b"/"[..]));
-//! #     b"a response".to_vec()
-//! # }
-//! # fn bad_request() -> Vec<u8> {
-//! #     unreachable!("the client's request is good")
 //! # }
 //! # fn random(length: usize) -> Vec<u8> {
 //! #     vec![0x55; length]
@@ -48,21 +41,17 @@
 //!
 //! // A client chooses of the list, seals its request and puts the head in front.
 //! let choice = KeyList::new(&list).choose(&[0x0020], &[pair])?;
-//! let plain = b"\0\x03GET\x05https\x0bexample.com\x01/";
-//! let (enc, ciphertext) = hpke::seal(choice.public_key, &choice.info()?, plain);
+//! let (enc, ciphertext) = hpke::seal(choice.public_key, &choice.info()?, b"a request");
 //! let request = [&choice.head(&enc)?.bytes[..], &ciphertext].concat();
 //!
 //! // The gateway admits it. A refusal says the status and problem type to send.
 //! let asked = gateway.admit(&request)?;
 //!
 //! // The host opens it, and says how that went.
-//! let (opened, plain) = match hpke::open(asked.info(), asked.enc(), asked.ciphertext()) {
-//!     Some(plain) => {
-//!         let opened = asked
-//!             .opened(&mut gateway, plain.len())
-//!             .map_err(|refused| refused.abandon(&mut gateway))?;
-//!         (opened, plain)
-//!     }
+//! let opened = match hpke::open(asked.info(), asked.enc(), asked.ciphertext()) {
+//!     Some(plain) => asked
+//!         .opened(&mut gateway, plain.len())
+//!         .map_err(|refused| refused.abandon(&mut gateway))?,
 //!     None => {
 //!         // What goes out now is not sealed: the status alone.
 //!         let unprotected = asked.failed(&mut gateway).map_err(|refused| refused.refusal)?;
@@ -71,20 +60,15 @@
 //!     }
 //! };
 //!
-//! // It reads the request inside and asks the target; a bad one gets its answer sealed too.
-//! let plain = match Request::read(&plain) {
-//!     Ok(request) => ask_target(&request),
-//!     Err(_) => bad_request(),
-//! };
-//!
-//! // It seals what comes back with a nonce and a secret of one length.
+//! // The host asks the target, and seals what comes back with a nonce and a secret of one length.
+//! let plain = b"a response";
 //! let exporter = exporter(opened.aead())?;
 //! let secret = hpke::export(&exporter.context, exporter.secret_length);
 //! let nonce = random(exporter.secret_length);
 //! let sealed = opened
 //!     .respond(&mut gateway, &nonce, plain.len())
 //!     .map_err(|refused| refused.abandon(&mut gateway))?;
-//! let response = [&nonce[..], &seal_response(&secret, &sealed.salt, &plain)].concat();
+//! let response = [&nonce[..], &seal_response(&secret, &sealed.salt, plain)].concat();
 //! assert_eq!((sealed.status, sealed.length), (200, response.len()));
 //!
 //! // The client takes the response apart.

@@ -51,7 +51,7 @@ impl<'m> Request<'m> {
     /// length where bytes are missing. It has no status: what goes out is sealed, and yours.
     pub fn read(message: &'m [u8]) -> Result<Request<'m>, Refusal> {
         let places = raw::request(message);
-        Refusal::or_in(places.outcome, message, Request { message, places })
+        Refusal::or_in_message(places.outcome, message, Request { message, places })
     }
 
     /// The method.

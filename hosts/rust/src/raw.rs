@@ -224,6 +224,11 @@ pub struct SizesResult {
     pub head: usize,
     pub split: usize,
     pub exporter: usize,
+}
+
+#[repr(C)]
+#[derive(Clone, Copy, Debug, PartialEq, Eq)]
+pub struct MessageSizesResult {
     pub request: usize,
     pub request_part: usize,
     pub next_field: usize,
@@ -244,10 +249,11 @@ const _: () = assert!(size_of::<ChooseResult>() == 48);
 const _: () = assert!(size_of::<HeadResult>() == 32);
 const _: () = assert!(size_of::<SplitResult>() == 40);
 const _: () = assert!(size_of::<ExporterResult>() == 40);
+const _: () = assert!(size_of::<SizesResult>() == 112);
 const _: () = assert!(size_of::<RequestResult>() == 168);
 const _: () = assert!(size_of::<RequestPartResult>() == 40);
 const _: () = assert!(size_of::<NextFieldResult>() == 64);
-const _: () = assert!(size_of::<SizesResult>() == 136);
+const _: () = assert!(size_of::<MessageSizesResult>() == 24);
 
 extern "C" {
     pub fn sealwax_setup(
@@ -336,6 +342,8 @@ extern "C" {
     ) -> NextFieldResult;
     #[allow(dead_code)]
     pub fn sealwax_sizes() -> SizesResult;
+    #[allow(dead_code)]
+    pub fn sealwax_message_sizes() -> MessageSizesResult;
 }
 
 /// A fresh gateway, on refusal one without keys, cap 1.
@@ -535,4 +543,11 @@ pub fn next_field(up_to_end: &[u8], place: usize) -> NextFieldResult {
 pub fn sizes() -> SizesResult {
     // SAFETY: it takes nothing, and answers a struct of the size asserted above.
     unsafe { sealwax_sizes() }
+}
+
+/// The same of the calls on messages.
+#[allow(dead_code)]
+pub fn message_sizes() -> MessageSizesResult {
+    // SAFETY: it takes nothing, and answers a struct of the size asserted above.
+    unsafe { sealwax_message_sizes() }
 }

@@ -272,25 +272,47 @@ impl Refusal {
         }
     }
 
-    /// The same of a call that has read this list or message: a refusal also says what stands in a
-    /// list, and whether a message ends.
-    pub(crate) fn or_in<T>(outcome: raw::Outcome, read: &[u8], value: T) -> Result<T, Refusal> {
+    /// The same of a call that has read this list: a refusal also says what stands in it.
+    pub(crate) fn or_in_list<T>(
+        outcome: raw::Outcome,
+        list: &[u8],
+        value: T,
+    ) -> Result<T, Refusal> {
         Refusal::or(outcome, value).map_err(|mut refusal| {
             let width = match refusal {
-                Refusal::DuplicateKeyId { .. } => Some(1),
-                // A refusal goes into logs, and no byte of what was sealed may.
-                Refusal::BadMessage { .. } => None,
+                Refusal::DuplicateKeyId { .. } => 1,
                 // What a refusal that this crate does not know points at, it does not know either.
                 Refusal::Other { .. } => return refusal,
-                _ => Some(2),
+                _ => 2,
             };
             if let Some(field) = refusal.field_mut() {
-                let from_place = read.get(field.place..).unwrap_or_default();
-                let value = width.and_then(|width| from_place.get(..width));
-                field.value = value.map(big_endian);
+                let from_place = list.get(field.place..).unwrap_or_default();
+                field.value = from_place.get(..width).map(big_endian);
                 field.rest = from_place.len();
             }
             refusal
+        })
+    }
+
+    /// The same of a call that has read this message, which alone gives 23: a refusal also says whether
+    /// the message ends.
+    pub(crate) fn or_in_message<T>(
+        outcome: raw::Outcome,
+        message: &[u8],
+        value: T,
+    ) -> Result<T, Refusal> {
+        Refusal::or(outcome, value).map_err(|refusal| match refusal {
+            // A refusal goes into logs, and no byte of what was sealed may: there is no value.
+            Refusal::Other {
+                number: 23,
+                field: Some(Field { place, value, .. }),
+                unprotected,
+            } => {
+                let rest = message.get(place..).unwrap_or_default().len();
+                let field = Field { place, value, rest };
+                Refusal::BadMessage { field, unprotected }
+            }
+            refusal => refusal,
         })
     }
 
@@ -325,7 +347,6 @@ impl Refusal {
             (20, Some(field)) => Refusal::BadPairLength { field, unprotected },
             (21, Some(field)) => Refusal::DuplicateKeyId { field, unprotected },
             (22, Some(field)) => Refusal::TooManyConfigurations { field, unprotected },
-            (23, Some(field)) => Refusal::BadMessage { field, unprotected },
             _ => Refusal::Other {
                 number,
                 field,
@@ -480,7 +501,7 @@ mod tests {
         for number in 1..=u8::MAX {
             let refusal = Refusal::or(placed(number, 5), ()).unwrap_err();
             assert_eq!(refusal.number(), number);
-            let known = matches!(number, 1..=9 | 11..=14 | 16..=23);
+            let known = matches!(number, 1..=9 | 11..=14 | 16..=22);
             assert_eq!(matches!(refusal, Refusal::Other { .. }), !known);
             assert_eq!((refusal.status(), refusal.problem_type()), (None, None));
         }
@@ -514,12 +535,12 @@ mod tests {
             "the ticket is not pending (refusal 11)"
         );
         assert_eq!(
-            text(outcome(99, 0, 0)),
-            "a reason that this crate does not know (refusal 99)"
+            text(outcome(23, 0, 0)),
+            "a reason that this crate does not know (refusal 23)"
         );
         assert_eq!(
-            text(placed(99, 45)),
-            "a reason that this crate does not know, place 45 (refusal 99)"
+            text(placed(23, 45)),
+            "a reason that this crate does not know, place 45 (refusal 23)"
         );
     }
 
@@ -533,7 +554,7 @@ mod tests {
         assert_eq!(admit.to_string(), "the KEM is unknown (refusal 3)");
         assert_eq!(Refusal::or(outcome(4, 0, 0), ()).unwrap_err().field(), None);
         // A newer library may have no place where this one has: nothing is made up.
-        for number in 18..=23 {
+        for number in 18..=22 {
             let refusal = Refusal::or(outcome(number, 0, 0), ()).unwrap_err();
             assert_eq!((refusal.number(), refusal.field()), (number, None));
         }
@@ -543,7 +564,7 @@ mod tests {
     fn sentences_about_a_list_name_what_to_look_at() {
         let list = [0x00, 0x29, 0x07, 0x00, 0x06, 0x00, 0x44, 0x00, 0x00];
         let said = |number, place| {
-            Refusal::or_in(placed(number, place), &list, ())
+            Refusal::or_in_list(placed(number, place), &list, ())
                 .unwrap_err()
                 .to_string()
         };
@@ -595,11 +616,11 @@ mod tests {
         }
         // A place past the list has no value, whatever the library says; nor has one of a number
         // that is not known here.
-        for (number, place) in [18, 19, 20, 21, 22, 23, 99].map(|number| (number, usize::MAX)) {
-            let refusal = Refusal::or_in(placed(number, place), &list, ()).unwrap_err();
+        for (number, place) in [18, 19, 20, 21, 22, 23].map(|number| (number, usize::MAX)) {
+            let refusal = Refusal::or_in_list(placed(number, place), &list, ()).unwrap_err();
             assert_eq!(refusal.field().and_then(Field::value), None);
         }
-        let refusal = Refusal::or_in(placed(99, 0), &list, ()).unwrap_err();
+        let refusal = Refusal::or_in_list(placed(23, 0), &list, ()).unwrap_err();
         assert_eq!(refusal.field().and_then(Field::value), None);
     }
 
@@ -615,7 +636,7 @@ mod tests {
                 "the message ends at byte 2, and bytes are missing (refusal 23)",
             ),
         ] {
-            let refusal = Refusal::or_in(placed(23, place), &message, ()).unwrap_err();
+            let refusal = Refusal::or_in_message(placed(23, place), &message, ()).unwrap_err();
             assert_eq!(refusal.to_string(), sentence);
             let field = refusal.field().unwrap();
             assert_eq!((field.place(), field.value()), (place, None));
@@ -629,10 +650,10 @@ mod tests {
             text.split(" (").next().unwrap_or("").to_string()
         };
         // With a place, and those that have a sentence without one.
-        let with = (1..=9).chain(11..=14).chain(16..=23).chain([99]);
+        let with = (1..=9).chain(11..=14).chain(16..=23);
         let with = with.map(|number| sentence(placed(number, 0)));
         let mut sentences: Vec<String> = with.collect();
-        sentences.extend([3, 99].map(|number| sentence(outcome(number, 0, 0))));
+        sentences.extend([3, 23].map(|number| sentence(outcome(number, 0, 0))));
         let all = sentences.len();
         sentences.sort();
         sentences.dedup();

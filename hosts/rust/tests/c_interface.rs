@@ -634,11 +634,18 @@ fn sizes_are_the_librarys() {
         head: size_of::<raw::HeadResult>(),
         split: size_of::<raw::SplitResult>(),
         exporter: size_of::<raw::ExporterResult>(),
+    };
+    assert_eq!(raw::sizes(), expected);
+}
+
+#[test]
+fn message_sizes_are_the_librarys() {
+    let expected = raw::MessageSizesResult {
         request: size_of::<raw::RequestResult>(),
         request_part: size_of::<raw::RequestPartResult>(),
         next_field: size_of::<raw::NextFieldResult>(),
     };
-    assert_eq!(raw::sizes(), expected);
+    assert_eq!(raw::message_sizes(), expected);
 }
 
 /// The first length that a call does not refuse with `wrong`: 0 where the call is refused all the same.

@@ -173,3 +173,13 @@ func TestManyFields(t *testing.T) {
 		}
 	}
 }
+
+// The number has a sentence of its own, too.
+func TestSentenceOfBadMessage(t *testing.T) {
+	sentence := Sentence(BadMessage)
+	for number := TooShort; number < BadMessage; number++ {
+		if sentence == "" || sentence == Sentence(number) {
+			t.Errorf("%d and %d are both %q", number, BadMessage, sentence)
+		}
+	}
+}

@@ -47,7 +47,7 @@ const MostKeys = C.SEALWAX_MOST_KEYS
 
 // A library whose structs are not the header's would write past Go's memory, so a program that is linked to one does not start.
 func init() {
-	said := C.sealwax_sizes()
+	said, messages := C.sealwax_sizes(), C.sealwax_message_sizes()
 	for _, pair := range [][2]uintptr{
 		{uintptr(said.gateway), unsafe.Sizeof(C.sealwax_gateway{})},
 		{uintptr(said.outcome), unsafe.Sizeof(C.sealwax_outcome{})},
@@ -63,9 +63,9 @@ func init() {
 		{uintptr(said.head), unsafe.Sizeof(C.sealwax_head_result{})},
 		{uintptr(said.split), unsafe.Sizeof(C.sealwax_split_result{})},
 		{uintptr(said.exporter), unsafe.Sizeof(C.sealwax_exporter_result{})},
-		{uintptr(said.request), unsafe.Sizeof(C.sealwax_request_result{})},
-		{uintptr(said.request_part), unsafe.Sizeof(C.sealwax_request_part_result{})},
-		{uintptr(said.next_field), unsafe.Sizeof(C.sealwax_next_field_result{})},
+		{uintptr(messages.request), unsafe.Sizeof(C.sealwax_request_result{})},
+		{uintptr(messages.request_part), unsafe.Sizeof(C.sealwax_request_part_result{})},
+		{uintptr(messages.next_field), unsafe.Sizeof(C.sealwax_next_field_result{})},
 	} {
 		if pair[0] != pair[1] {
 			panic("sealwax: include/sealwax.h and build/libsealwax.a are not of one make")

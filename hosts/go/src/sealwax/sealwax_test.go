@@ -468,7 +468,7 @@ func TestLock(t *testing.T) {
 // Each number has its own sentence, so that what goes out tells refusals apart.
 func TestSentences(t *testing.T) {
 	seen := map[string]int{}
-	for number := TooShort; number <= BadMessage; number++ {
+	for number := TooShort; number <= TooManyConfigurations; number++ {
 		if number == 10 || number == 15 { // kept free, and no longer given
 			continue
 		}

@@ -5,7 +5,6 @@ package client
 import (
 	"bytes"
 	"context"
-	"encoding/binary"
 	"encoding/json"
 	"errors"
 	"fmt"
@@ -52,7 +51,7 @@ func New(keys, relay string) *Client {
 	}
 }
 
-// An Exchange is a message that was answered.
+// An Exchange is a reading that was answered.
 type Exchange struct {
 	Choice   sealwax.Choice
 	Request  int // bytes sent
@@ -73,35 +72,14 @@ func (u *Unprotected) Error() string {
 	return fmt.Sprintf("unprotected answer %d: %q", u.Status, u.Text)
 }
 
-// Post is a message that posts a reading: a request in binary HTTP of known length (RFC 9292), without fields and padding. The library reads
-// requests inside and writes none, so it is written here.
-func Post(authority, path string, reading []byte) []byte {
-	message := []byte{0}
-	for _, part := range []string{http.MethodPost, "https", authority, path, "", string(reading), ""} {
-		message = append(appendInteger(message, len(part)), part...)
-	}
-	return message
-}
-
-// appendInteger appends a length as the shortest integer of RFC 9000.
-func appendInteger(b []byte, n int) []byte {
-	switch {
-	case n < 1<<6:
-		return append(b, byte(n))
-	case n < 1<<14:
-		return binary.BigEndian.AppendUint16(b, 1<<14|uint16(n))
-	}
-	return binary.BigEndian.AppendUint32(b, 2<<30|uint32(n)) // a request has less than 2^30 bytes
-}
-
-// Send seals a message, the request inside, sends it and opens the answer. Where the gateway says that the key is wrong or outdated, the list
-// is fetched again, once, and the message is sealed anew (RFC 9458, 5.3): such a request was not taken up, so nothing is done twice.
-func (c *Client) Send(ctx context.Context, message []byte) (*Exchange, error) {
+// Send seals a reading, sends it and opens the answer. Where the gateway says that the key is wrong or outdated, the list is fetched
+// again, once, and the reading is sealed anew (RFC 9458, 5.3): such a request was not taken up, so nothing is done twice.
+func (c *Client) Send(ctx context.Context, reading []byte) (*Exchange, error) {
 	list, err := c.keyList(ctx, nil)
 	if err != nil {
 		return nil, err
 	}
-	exchange, err := c.try(ctx, list, message)
+	exchange, err := c.try(ctx, list, reading)
 	var unprotected *Unprotected
 	if !errors.As(err, &unprotected) || unprotected.Type != sealwax.OHTTPKey {
 		return exchange, err
@@ -110,7 +88,7 @@ func (c *Client) Send(ctx context.Context, message []byte) (*Exchange, error) {
 	if list, err = c.keyList(ctx, list); err != nil {
 		return nil, fmt.Errorf("%w; and then: %v", problem, err)
 	}
-	exchange, err = c.try(ctx, list, message)
+	exchange, err = c.try(ctx, list, reading)
 	if err != nil {
 		return nil, err
 	}
@@ -157,13 +135,13 @@ func (c *Client) forget(list []byte) {
 	}
 }
 
-func (c *Client) try(ctx context.Context, list, message []byte) (*Exchange, error) {
+func (c *Client) try(ctx context.Context, list, reading []byte) (*Exchange, error) {
 	choice, err := sealwax.Choose(list, c.KEMs, c.Pairs)
 	if err != nil {
 		c.forget(list)
 		return nil, err
 	}
-	sealed, sent, err := ohttp.Seal(choice, message)
+	sealed, sent, err := ohttp.Seal(choice, reading)
 	if err != nil {
 		return nil, err
 	}

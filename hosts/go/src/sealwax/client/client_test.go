@@ -19,11 +19,7 @@ import (
 )
 
 func echo(_ context.Context, opened []byte) ([]byte, error) {
-	request, err := sealwax.ReadInnerRequest(opened)
-	if err != nil {
-		return nil, err
-	}
-	return append([]byte("echo "), request.Content...), nil
+	return append([]byte("echo "), opened...), nil
 }
 
 // serve starts a service with two keys, 7 and 8, behind a handler that may look at what passes.
@@ -84,12 +80,11 @@ func retire(t *testing.T, service *gateway.Service, id int) {
 
 func send(t *testing.T, c *Client) *Exchange {
 	t.Helper()
-	message := Post("maker.example", "/readings", []byte("a reading"))
-	exchange, err := c.Send(context.Background(), message)
+	exchange, err := c.Send(context.Background(), []byte("a reading"))
 	if err != nil {
 		t.Fatal(err)
 	}
-	if string(exchange.Answer) != "echo a reading" || exchange.Status != 200 || exchange.Request != 7+32+len(message)+16 {
+	if string(exchange.Answer) != "echo a reading" || exchange.Status != 200 || exchange.Request != 7+32+9+16 {
 		t.Errorf("%+v", exchange)
 	}
 	return exchange
@@ -369,23 +364,6 @@ func TestLongestList(t *testing.T) {
 	}
 	if written := <-ended; written == most {
 		t.Error("all of it was read")
-	}
-}
-
-// The library reads a posted reading as it was written, whatever its length: each size of integer is used, up to the longest request.
-func TestPost(t *testing.T) {
-	for _, length := range []int{0, 1, 63, 64, 16383, 16384, sealwax.LongestRequest} {
-		reading := bytes.Repeat([]byte{0x5a}, length)
-		request, err := sealwax.ReadInnerRequest(Post("maker.example", "/readings", reading))
-		if err != nil {
-			t.Errorf("%d bytes: %v", length, err)
-			continue
-		}
-		if string(request.Method) != "POST" || string(request.Scheme) != "https" || string(request.Authority) != "maker.example" ||
-			string(request.Path) != "/readings" || !bytes.Equal(request.Content, reading) ||
-			len(request.Headers)+len(request.Trailers)+request.Padding != 0 {
-			t.Errorf("%d bytes: %.100v", length, request)
-		}
 	}
 }
 

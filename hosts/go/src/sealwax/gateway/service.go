@@ -28,10 +28,9 @@ const (
 
 const textType = "text/plain; charset=utf-8"
 
-// A Target answers what a request held. That is a request in binary HTTP that sealwax.ReadInnerRequest reads; sealwax.ReadHTTPRequest makes an
-// http.Request of it where net/http has a form for it. The bytes are passed on as they were opened, and the answer is sealed as it is. A target
-// may answer late and in any order; the context ends when the client goes away or the time is up, and who goes on after that is not waited
-// for.
+// A Target answers what a request held. That is a binary HTTP message, which this release does not look at: the bytes are passed on as
+// they were opened, and the answer is sealed as it is. A target may answer late and in any order; the context ends when the client
+// goes away or the time is up, and who goes on after that is not waited for.
 type Target func(ctx context.Context, opened []byte) ([]byte, error)
 
 // What is sealed where the target has no answer: the binary HTTP responses 502 and 504 without fields and content, in the form of
@@ -40,9 +39,6 @@ var (
 	badGateway     = []byte{0x01, 0x41, 0xf6}
 	gatewayTimeout = []byte{0x01, 0x41, 0xf8}
 )
-
-// What is sealed where the request inside is bad: the binary HTTP response 400, its header section, content and trailer section empty.
-var badRequest = []byte{0x01, 0x41, 0x90, 0x00, 0x00, 0x00}
 
 // A Key is a private key, its key id and the pairs that it is offered with.
 type Key struct {
@@ -225,7 +221,7 @@ func (s *Service) exchange(client context.Context, request []byte) (answer reply
 	if err := s.gateway.Opened(admission.Ticket, len(opened)); err != nil {
 		return s.fail(admission.Ticket, err)
 	}
-	plain := s.answer(client, admission.Ticket, opened)
+	plain := s.ask(client, admission.Ticket, opened)
 	if client.Err() != nil {
 		return reply{}, false
 	}
@@ -265,16 +261,6 @@ func (s *Service) respond(admission sealwax.Admission, nonce, plain []byte) (sea
 		response, err = s.gateway.Respond(admission.Ticket, admission.Enc, nonce, len(plain))
 	}
 	return response, plain, err
-}
-
-// answer answers what to seal: what comes of asking the target, or the error where the request inside is bad. The log gets the place of
-// the fault, and nothing of what stands there.
-func (s *Service) answer(client context.Context, ticket sealwax.Ticket, opened []byte) []byte {
-	if _, err := sealwax.ReadInnerRequest(opened); err != nil {
-		s.config.Log.Printf("ticket %d: %v", ticket, err)
-		return badRequest
-	}
-	return s.ask(client, ticket, opened)
 }
 
 // ask asks the target, or answers the error to seal in its place.

@@ -66,17 +66,9 @@ func start(t *testing.T, config gateway.Config) *fixture {
 	return f
 }
 
-// echo answers the content of the request inside.
 func echo(_ context.Context, opened []byte) ([]byte, error) {
-	request, err := sealwax.ReadInnerRequest(opened)
-	if err != nil {
-		return nil, err
-	}
-	return append([]byte("echo "), request.Content...), nil
+	return append([]byte("echo "), opened...), nil
 }
-
-// posts is a message that posts a reading.
-func posts(reading string) []byte { return client.Post("maker.example", "/readings", []byte(reading)) }
 
 // twoKeys are key 7 of X25519 with the pairs (1, 1) and (1, 3), and key 8 of P-256 with (3, 2).
 func twoKeys(t *testing.T) []gateway.Key {
@@ -100,7 +92,7 @@ type failer interface {
 	Fatal(...any)
 }
 
-// seal seals a message to a key with its first pair.
+// seal seals a reading to a key with its first pair.
 func seal(t failer, key gateway.Key, plain []byte) ([]byte, *ohttp.Sent) {
 	t.Helper()
 	request, sent, err := ohttp.Seal(sealwax.Choice{
@@ -180,7 +172,7 @@ func (f *fixture) opens(answer answered, sent *ohttp.Sent) []byte {
 // beside sends a request beside the test and hands the opened answer to a channel, or the text of what went wrong.
 func (f *fixture) beside(key gateway.Key, done chan<- string) {
 	f.Helper()
-	request, sent := seal(f, key, posts("a reading"))
+	request, sent := seal(f, key, []byte("a reading"))
 	go func() {
 		answer, err := f.send(context.Background(), http.MethodPost, gateway.Path, ohttp.RequestType, request)
 		if err != nil {
@@ -258,7 +250,7 @@ func TestAnswers(t *testing.T) {
 	f := start(t, gateway.Config{Keys: keys, Cap: 10, Target: echo})
 	for _, key := range keys {
 		for _, reading := range []string{"", "a reading", strings.Repeat("x", 60000)} {
-			request, sent := seal(t, key, posts(reading))
+			request, sent := seal(t, key, []byte(reading))
 			answer := f.post(request)
 			if plain := f.opens(answer, sent); string(plain) != "echo "+reading {
 				t.Errorf("answered %q", plain)
@@ -285,8 +277,8 @@ func TestAnswers(t *testing.T) {
 func TestRefusals(t *testing.T) {
 	keys := twoKeys(t)
 	f := start(t, gateway.Config{Keys: keys, Cap: 1, Target: echo})
-	good, sent := seal(t, keys[0], posts("a reading"))
-	other, _ := seal(t, keys[1], posts("a reading"))
+	good, sent := seal(t, keys[0], []byte("a reading"))
+	other, _ := seal(t, keys[1], []byte("a reading"))
 	for _, refused := range []struct {
 		request []byte
 		number  int
@@ -324,7 +316,7 @@ func TestNotOpened(t *testing.T) {
 	keys := twoKeys(t)
 	f := start(t, gateway.Config{Keys: keys, Cap: 100, Target: echo})
 	for i, key := range keys {
-		request, _ := seal(t, key, posts("a reading"))
+		request, _ := seal(t, key, []byte("a reading"))
 		for _, damaged := range [][]byte{
 			patch(request, len(request)-1, request[len(request)-1]^1),
 			patch(request, 20, request[20]^1),      // enc
@@ -366,7 +358,7 @@ func TestTargetErrorsAreSealed(t *testing.T) {
 		t.Run(name, func(t *testing.T) {
 			keys := twoKeys(t)
 			f := start(t, gateway.Config{Keys: keys, Cap: 10, Target: c.target, Wait: 200 * time.Millisecond})
-			request, sent := seal(t, keys[1], posts(secret))
+			request, sent := seal(t, keys[1], []byte(secret))
 			// A late answer and the end of the wait may come together: either error may be sealed then.
 			plain := hex.EncodeToString(f.opens(f.post(request), sent))
 			if plain != c.want && !(name == "late" && plain == "0141f6") {
@@ -404,7 +396,7 @@ func TestTableFull(t *testing.T) {
 	if status := f.service.Status(); status.Pending != 128 {
 		t.Fatalf("pending %d", status.Pending)
 	}
-	request, _ := seal(t, keys[0], posts(""))
+	request, _ := seal(t, keys[0], nil)
 	f.refuses(f.post(request), 9)
 	pending[77] <- []byte("77")
 	if got := <-done; got != "77" {
@@ -444,7 +436,7 @@ func TestClientGoesAway(t *testing.T) {
 			}})
 			begin := time.Now()
 			ctx, cancel := context.WithCancel(context.Background())
-			request, _ := seal(t, keys[0], posts("a reading"))
+			request, _ := seal(t, keys[0], []byte("a reading"))
 			go func() { <-asked; cancel() }()
 			answer, err := f.send(ctx, http.MethodPost, gateway.Path, ohttp.RequestType, request)
 			if !errors.Is(err, context.Canceled) {
@@ -504,8 +496,7 @@ func TestOversize(t *testing.T) {
 	chunked := f.raw(false, rawHead, "Transfer-Encoding: chunked\r\n\r\n", "20000\r\n", strings.Repeat("x", 65538))
 	f.refuses(chunked, 2)
 	// 65,536 bytes are a request, 65,537 are none.
-	message := posts("a reading")
-	longest, sent := seal(t, keys[0], append(message, make([]byte, sealwax.LongestRequest-7-32-16-len(message))...)) // padded
+	longest, sent := seal(t, keys[0], make([]byte, sealwax.LongestRequest-7-32-16))
 	if plain := f.opens(f.post(longest), sent); string(plain) != "65481" {
 		t.Errorf("answered %q", plain)
 	}
@@ -520,7 +511,7 @@ func TestOversize(t *testing.T) {
 func TestNoRequests(t *testing.T) {
 	keys := twoKeys(t)
 	f := start(t, gateway.Config{Keys: keys, Cap: 10, Target: echo})
-	request, sent := seal(t, keys[0], posts("a reading"))
+	request, sent := seal(t, keys[0], []byte("a reading"))
 	for _, c := range []struct {
 		method, path, contentType string
 		status                    int
@@ -587,7 +578,7 @@ func TestKeyList(t *testing.T) {
 		}
 	}
 	want(keys...)
-	request, sent := seal(t, keys[0], posts(""))
+	request, sent := seal(t, keys[0], nil)
 	f.opens(f.post(request), sent)
 	want(keys[1])
 	f.retire(8)
@@ -605,7 +596,7 @@ func TestRetire(t *testing.T) {
 		<-answer
 		return []byte("answer"), nil
 	}})
-	request, _ := seal(t, keys[0], posts(""))
+	request, _ := seal(t, keys[0], nil)
 	done := make(chan string, 1)
 	f.beside(keys[0], done)
 	<-asked
@@ -638,7 +629,7 @@ func TestRetire(t *testing.T) {
 func TestStatusPage(t *testing.T) {
 	keys := twoKeys(t)
 	f := start(t, gateway.Config{Keys: keys, Cap: 2, Target: echo})
-	request, sent := seal(t, keys[1], posts(""))
+	request, sent := seal(t, keys[1], nil)
 	f.opens(f.post(request), sent)
 	f.post(patch(request, len(request)-1, request[len(request)-1]^1))
 	f.refuses(f.post(request), 8)
@@ -720,7 +711,7 @@ func TestSuites(t *testing.T) {
 		for _, pair := range ohttp.Pairs {
 			c := client.New(f.server.URL+gateway.Path, f.server.URL+gateway.Path)
 			c.KEMs, c.Pairs = []sealwax.KEM{kem}, []sealwax.Pair{pair}
-			exchange, err := c.Send(context.Background(), posts("a reading"))
+			exchange, err := c.Send(context.Background(), []byte("a reading"))
 			if err != nil {
 				t.Errorf("KEM 0x%04x, %v: %v", uint16(kem), pair, err)
 				continue

@@ -71,13 +71,8 @@ func (s *stress) arrive() {
 }
 
 // target takes a reading of a word and a number.
-func (s *stress) target(ctx context.Context, opened []byte) ([]byte, error) {
-	request, err := sealwax.ReadInnerRequest(opened)
-	if err != nil {
-		return nil, err
-	}
+func (s *stress) target(ctx context.Context, reading []byte) ([]byte, error) {
 	var word, number string
-	reading := request.Content
 	if _, err := fmt.Sscan(string(reading), &word, &number); err != nil {
 		return nil, err
 	}
@@ -99,7 +94,7 @@ func (s *stress) target(ctx context.Context, opened []byte) ([]byte, error) {
 		close(there.(chan struct{}))
 		<-ctx.Done()
 	}
-	return echo(ctx, opened)
+	return echo(ctx, reading)
 }
 
 // Two hundred clients at once, some of which send junk or go away, while keys wear out and are retired. Afterwards the report is what
@@ -229,7 +224,7 @@ func (s *stress) one(random *rand.Rand, seen *record) {
 		key = s.keys[random.Intn(len(s.keys))]
 	}
 	reading := fmt.Sprintf("slow %d", number)
-	request, _ := seal(s, key, posts(reading))
+	request, _ := seal(s, key, []byte(reading))
 	switch random.Intn(20) {
 	default:
 		s.exchange(seen, key, reading)
@@ -261,18 +256,12 @@ func (s *stress) one(random *rand.Rand, seen *record) {
 		s.goAway(seen, key, fmt.Sprint(number))
 	case 12:
 		s.cutOff(seen, request)
-	case 13: // no request inside
-		s.exchange(seen, key, fmt.Sprintf("bad %d", number))
 	}
 }
 
-// exchange sends a good request, but that a bad reading is not in a message; the answer is a refusal or what the target says to the reading.
+// exchange sends a good request; the answer is a refusal or what the target says to the reading.
 func (s *stress) exchange(seen *record, key gateway.Key, reading string) {
-	message := posts(reading)
-	if strings.HasPrefix(reading, "bad") {
-		message = []byte(reading)
-	}
-	request, sent := seal(s, key, message)
+	request, sent := seal(s, key, []byte(reading))
 	answer, err := s.send(context.Background(), http.MethodPost, gateway.Path, ohttp.RequestType, request)
 	if err != nil {
 		s.Error(err)
@@ -299,9 +288,6 @@ func (s *stress) see(seen *record, request []byte, answer answered, sent *ohttp.
 		want := []byte("echo " + reading)
 		if strings.HasPrefix(reading, "error") || strings.HasPrefix(reading, "panic") {
 			want = []byte{0x01, 0x41, 0xf6}
-		}
-		if strings.HasPrefix(reading, "bad") {
-			want = []byte{0x01, 0x41, 0x90, 0x00, 0x00, 0x00}
 		}
 		if err != nil || !bytes.Equal(plain, want) {
 			s.Errorf("%q was answered %q, %v", reading, plain, err)
@@ -331,7 +317,7 @@ func (s *stress) goAway(seen *record, key gateway.Key, number string) {
 		case <-ctx.Done():
 		}
 	}()
-	request, sent := seal(s, key, posts("hold "+number))
+	request, sent := seal(s, key, []byte("hold "+number))
 	answer, err := s.send(ctx, http.MethodPost, gateway.Path, ohttp.RequestType, request)
 	switch {
 	case errors.Is(err, context.Canceled):

@@ -15,7 +15,7 @@ import (
 func main() {
 	gateway := flag.String("gateway", "", "URL of the gateway resource, where the key list is fetched")
 	relay := flag.String("relay", "", "URL that takes requests, the gateway resource's where there is no relay")
-	reading := flag.String("reading", "monitor 12: 60.2 pulses a minute, ratio 64:36, vacuum 42.1 kPa", "what to post")
+	reading := flag.String("reading", "monitor 12: 60.2 pulses a minute, ratio 64:36, vacuum 42.1 kPa", "what to send")
 	status := flag.String("status", "", "URL of a status page to print afterwards, on the gateway's machine")
 	flag.Parse()
 	if *relay == "" {
@@ -34,8 +34,7 @@ func main() {
 }
 
 func send(gateway, relay, reading string) error {
-	message := client.Post("maker.example", "/readings", []byte(reading))
-	exchange, err := client.New(gateway, relay).Send(context.Background(), message)
+	exchange, err := client.New(gateway, relay).Send(context.Background(), []byte(reading))
 	if err != nil {
 		return err
 	}
@@ -45,7 +44,7 @@ func send(gateway, relay, reading string) error {
 	}
 	fmt.Printf("key:    %d, KEM 0x%04x, KDF 0x%04x, AEAD 0x%04x\n",
 		choice.KeyID, uint16(choice.KEM), uint16(choice.Pair.KDF), uint16(choice.Pair.AEAD))
-	fmt.Printf("sent:   %d bytes, a sealed request of %d bytes that posts the reading %q\n", exchange.Request, len(message), reading)
+	fmt.Printf("sent:   %d bytes, the sealed reading %q\n", exchange.Request, reading)
 	fmt.Printf("status: %d, with a sealed response of %d bytes\n", exchange.Status, exchange.Response)
 	fmt.Printf("answer: %q\n", exchange.Answer)
 	return nil

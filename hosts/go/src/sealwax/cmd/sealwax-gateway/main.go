@@ -99,11 +99,7 @@ func freshKeys(kems []string) ([]gateway.Key, error) {
 	return keys, nil
 }
 
-// taken is the demonstration target: it takes the content of the request inside for a reading, and says how many bytes it took.
-func taken(_ context.Context, opened []byte) ([]byte, error) {
-	request, err := sealwax.ReadInnerRequest(opened)
-	if err != nil {
-		return nil, err
-	}
-	return []byte(fmt.Sprintf("taken: a reading of %d bytes", len(request.Content))), nil
+// taken is the demonstration target: it takes the opened bytes for a reading, not for binary HTTP, and says how many it took.
+func taken(_ context.Context, reading []byte) ([]byte, error) {
+	return []byte(fmt.Sprintf("taken: a reading of %d bytes", len(reading))), nil
 }
