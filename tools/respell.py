@@ -11,6 +11,7 @@ Strings, paths of modules, names of libraries and the names of goals, which Ratt
 """
 import os
 import re
+import subprocess
 import sys
 
 TOKEN = re.compile(r"[^\s(){}\[\],.;:«»\"`|]+")
@@ -91,8 +92,9 @@ def bound_names(code):
 def words_of_libraries():
     """What the Prelude and the lemmas that proofs cite are called."""
     names = set()
+    kit = os.path.dirname(subprocess.run(["rt", "doc"], stdout=subprocess.PIPE, text=True, check=True).stdout.split()[0])
     for path in ("std/specs/Prelude.antt", "std/proofs/Common.antt"):
-        path = os.path.join("/opt/rattle/rattle", path)
+        path = os.path.join(kit, "rattle", path)
         if os.path.exists(path):
             with open(path, encoding="utf-8") as f:
                 names.update(TOKEN.findall(code_of(f.read(), True)))
