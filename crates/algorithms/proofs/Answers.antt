@@ -1,18 +1,14 @@
 -- What the answer of a size lookup tells of the number.
 -- Assumes nothing.
-use mathlib.Core.Path.{◌≡◌, refl}
-use mathlib.Core.Bool.{Bool, true, false}
-use Prim.Native.Nat.{ℕ}
-use native.Mathlib.Omega.{arith}
-use Rattle.algorithms.specs.declared.Size.TheVariants.{Bytes, Unknown}
-use Rattle.algorithms.specs.Answers.{size_of}
+use Rattle.std.proofs.Common.{◌≡◌, ℕ, Bool, true, false, Some, None, refl}
+use Rattle.std.specs.Bool.{then_some}
 
--- bytes: the number is known, and that is its size
-pub known : (is : Bool) (size n : ℕ) → size_of is size ≡ Bytes n → (is ≡ true) × (size ≡ n)
+-- some size: the number is known, and that is its size
+pub known : (is : Bool) (size n : ℕ) → then_some is size ≡ Some n → (is ≡ true) × (size ≡ n)
 known true size n e = (refl, cc)
-known false size n e = absurd (let z : ◌≡◌ {A = ℕ} 0 1 = cc in omega arith)
+known false size n e = cc
 
--- no bytes: the number is unknown
-pub unknown : (is : Bool) (size : ℕ) → size_of is size ≡ Unknown → is ≡ false
-unknown true size e = absurd (let z : ◌≡◌ {A = ℕ} 0 1 = cc in omega arith)
+-- none: the number is unknown
+pub unknown : (is : Bool) (size : ℕ) → then_some is size ≡ None → is ≡ false
+unknown true size e = cc
 unknown false size e = refl

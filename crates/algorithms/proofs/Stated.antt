@@ -1,25 +1,19 @@
 -- The statements of specs/Stated, proved.
 -- Assumes nothing.
-use mathlib.Core.Path.{◌≡◌, refl, sym, ◌∙◌}
-use mathlib.Core.Bool.{Bool, true, false}
-use mathlib.Core.List.{List, [], ◌∷◌, ◌++◌, map}
-use lib.ListN.{get_or, length, get_or-eq_default}
-use Prim.Native.Nat.{ℕ, ◌≤◌, ◌<◌}
-use native.Mathlib.Omega.{arith}
-use lib.Dec.{eqb, leb, ltb}
-use borrow.Author.Tests.{eq-eqb, leb-true, eqb-true, ltb-true, ltb-false, not-false}
+use Rattle.std.specs.List.{list_any}
+use Rattle.std.proofs.Common.{◌||◌, ◌≡◌, refl, ◌∙◌, ℕ, ◌≤◌, ◌<◌, Bool, true, false, List, [], ◌∷◌, ◌++◌, map, Option, Some, None, is_some, option_map, IfSome, eqb, leb, ltb, arith, eq-eqb, leb-true, ltb-true}
 use Rattle.wire.specs.Tests.{pick}
-use Rattle.wire.specs.Search.{first_place, any_passes, among}
-use Rattle.wire.proofs.Booleans.{either, and_left, and_right, true_or_false}
-use Rattle.wire.proofs.Matches.{first_passes, any_by_place}
+use Rattle.wire.specs.Search.{among}
+use Rattle.wire.proofs.Booleans.{either, and_left, true_or_false}
+use Rattle.algorithms.specs.declared.Kind.{Kind}
 use Rattle.algorithms.specs.declared.Row.{Row}
-use Rattle.algorithms.specs.Table.{table, row_in, row_of, is_row, no_row, kem_kind, kdf_kind, aead_kind}
-use Rattle.algorithms.specs.Sizes.{is_known, known_kem, known_kdf, known_aead, enc_length, public_key_length, key_length}
+use Rattle.algorithms.specs.Table.{table, row_in, row_of, same_kind, is_row}
+use Rattle.algorithms.specs.Sizes.{size_in, known_kem, known_kdf, known_aead, enc_length, public_key_length, key_length}
 use Rattle.algorithms.specs.Stated.{SizesOfThePaper, KnownNumbers, with_nenc, ReadFromTheTable, SizeBounds, size_bound}
-use Rattle.algorithms.proofs.Rows.{of_row, every}
+use Rattle.algorithms.proofs.Rows.{of_row}
 
 pub sizes_of_the_paper : SizesOfThePaper
-unfolding enc_length public_key_length key_length row_of table first_place
+unfolding enc_length public_key_length key_length row_of table
 sizes_of_the_paper =
     record {
       nenc = refl;
@@ -30,67 +24,64 @@ sizes_of_the_paper =
     }
 
 -- the numbers of the rows of a kind, in order
-numbers_of : ℕ → List Row → List ℕ
+numbers_of : Kind → List Row → List ℕ
 numbers_of kind [] = []
-numbers_of kind (row ∷ rows) = pick (eqb row.kind kind) (row.number ∷ numbers_of kind rows) (numbers_of kind rows)
+numbers_of kind (row ∷ rows) = pick (same_kind row.kind kind) (row.number ∷ numbers_of kind rows) (numbers_of kind rows)
 
--- a lookup finds a row of the table exactly where the number is one of its kind's
-module _ (kind number : ℕ) where
-  found : List Row → Bool
-  found rows = is_known (get_or rows (first_place (is_row kind number) rows) no_row)
-
-  found_among : (rows : List Row) → every is_known rows ≡ true → found rows ≡ among (numbers_of kind rows) number
-  unfolding found numbers_of first_place any_passes
-  found_among [] t = refl
-  found_among (row ∷ rows) t =
-      either (eqb row.kind kind)
-      (λ k. either (eqb row.number number)
-      (λ n. rw (k, n) (and_left (is_known row) (every is_known rows) t))
-      (λ n. rw (k, n) (found_among rows (and_right (is_known row) (every is_known rows) t))))
-      (λ k. rw k (found_among rows (and_right (is_known row) (every is_known rows) t)))
+-- a lookup finds a row exactly where the number is one of its kind's
+found_among : (kind : Kind) (number : ℕ) (rows : List Row) → is_some (row_in rows kind number) ≡ among (numbers_of kind rows) number
+unfolding numbers_of
+found_among kind number [] = refl
+found_among kind number (row ∷ rows) =
+    either (same_kind row.kind kind)
+    (λ k. either (eqb row.number number)
+    (λ n. rw (k, n))
+    (λ n. rw (k, n) (found_among kind number rows)))
+    (λ k. rw k (found_among kind number rows))
 
 pub known_numbers : KnownNumbers
-unfolding known_kem known_kdf known_aead row_of table found numbers_of first_place
+unfolding known_kem known_kdf known_aead row_of table numbers_of
 known_numbers =
     record {
-      kem = λ n. found_among kem_kind n table refl;
-      kdf = λ n. found_among kdf_kind n table refl;
-      aead = λ n. found_among aead_kind n table refl;
+      kem = λ n. found_among Kind.Kem n table;
+      kdf = λ n. found_among Kind.Kdf n table;
+      aead = λ n. found_among Kind.Aead n table;
       export_only = refl;
     }
 
+same-kind : (kind : Kind) → same_kind kind kind ≡ true
+same-kind Kind.Kem = refl
+same-kind Kind.Kdf = refl
+same-kind Kind.Aead = refl
+
 -- a lookup looks at the first row, and then at the others
-in_first : (kind number : ℕ) (row : Row) (rows : List Row) → row_in (row ∷ rows) kind number ≡ pick (is_row kind number row) row (row_in rows kind number)
-unfolding first_place
+in_first : (kind : Kind) (number : ℕ) (row : Row) (rows : List Row) → row_in (row ∷ rows) kind number ≡ pick (is_row kind number row) (Some row) (row_in rows kind number)
 in_first kind number row rows = either (is_row kind number row) (λ is. rw is) (λ is. rw is)
 
--- a row that is another is passed over
-passed : (kind number : ℕ) (row : Row) (rows : List Row) → is_row kind number row ≡ false → row_in (row ∷ rows) kind number ≡ row_in rows kind number
-passed kind number row rows is = in_first kind number row rows ∙ rw is
-
-none_first : (is : Bool) {rest : Bool} → pick is true rest ≡ false → (is ≡ false) × (rest ≡ false)
+none_first : (is : Bool) {rest : Bool} → (is || rest) ≡ false → (is ≡ false) × (rest ≡ false)
 none_first true h = absurd (true_or_false refl h)
 none_first false h = (refl, h)
 
-found_first : (before behind : List Row) (row : Row) → any_passes (is_row row.kind row.number) before ≡ false
-    → row_in (before ++ row ∷ behind) row.kind row.number ≡ row
-unfolding any_passes
-found_first [] behind row h = in_first row.kind row.number row behind ∙ rw (eq-eqb row.kind row.kind refl, eq-eqb row.number row.number refl)
+found_first : (before behind : List Row) (row : Row) → list_any (is_row row.kind row.number) before ≡ false
+    → row_in (before ++ row ∷ behind) row.kind row.number ≡ Some row
+found_first [] behind row h = in_first row.kind row.number row behind ∙ rw (same-kind row.kind, eq-eqb row.number row.number refl)
 found_first (x ∷ before) behind row h =
     let is = none_first (is_row row.kind row.number x) h in
-    passed row.kind row.number x (before ++ row ∷ behind) is.0 ∙ found_first before behind row is.1
+    in_first row.kind row.number x (before ++ row ∷ behind) ∙ rw is.0 (found_first before behind row is.1)
 
-not_found : (rows : List Row) (kind number : ℕ) → any_passes (is_row kind number) rows ≡ false → row_in rows kind number ≡ no_row
-not_found rows kind number h =
-    get_or-eq_default rows no_row (leb-true (length rows) (first_place (is_row kind number) rows) (sym (any_by_place no_row (is_row kind number) rows) ∙ rw h))
+not_found : (rows : List Row) (kind : Kind) (number : ℕ) → list_any (is_row kind number) rows ≡ false → row_in rows kind number ≡ None
+not_found [] kind number h = refl
+not_found (row ∷ rows) kind number h =
+    let is = none_first (is_row kind number row) h in
+    in_first kind number row rows ∙ rw is.0 (not_found rows kind number is.1)
 
 -- another Nenc leaves kind and number
-same_number : (kem nenc kind number : ℕ) (row : Row) → is_row kind number (with_nenc kem nenc row) ≡ is_row kind number row
-same_number kem nenc kind number row = either (is_row kem_kind kem row) (λ is. rw is) (λ is. rw is)
+same_number : (kem nenc : ℕ) (kind : Kind) (number : ℕ) (row : Row) → is_row kind number (with_nenc kem nenc row) ≡ is_row kind number row
+same_number kem nenc kind number row = either (is_row Kind.Kem kem row) (λ is. rw is) (λ is. rw is)
 
 -- where the row is found, it is the changed one; else the others are looked at, changed
-nenc-changed : (rows : List Row) (kem nenc kind number : ℕ)
-    → row_in (map (with_nenc kem nenc) rows) kind number ≡ with_nenc kem nenc (row_in rows kind number)
+nenc-changed : (rows : List Row) (kem nenc : ℕ) (kind : Kind) (number : ℕ)
+    → row_in (map (with_nenc kem nenc) rows) kind number ≡ option_map (with_nenc kem nenc) (row_in rows kind number)
 nenc-changed [] kem nenc kind number = refl
 nenc-changed (row ∷ rows) kem nenc kind number =
     in_first kind number (with_nenc kem nenc row) (map (with_nenc kem nenc) rows)
@@ -106,37 +97,36 @@ read_from_the_table =
       kdf_known = λ number. refl;
       aead_sizes = λ number. (refl, refl);
       response_nonces = λ number. refl;
-      found = λ before behind row none. found_first before behind row none;
-      unknown = λ rows kind number none. not_found rows kind number none;
+      found = found_first;
+      unknown = not_found;
       nenc_changed = nenc-changed;
     }
 
--- each test below passes at every row, computed over the table
-no-key-unknown : (n : ℕ) → known_kem n ≡ false → public_key_length n ≡ 0
-unfolding known_kem public_key_length table
-no-key-unknown n h =
-    eqb-true _ _
-    (rw (not-false (eqb (row_of kem_kind n).kind 0) h)
-    at (of_row (λ row. pick (eqb row.kind 0) (eqb row.public_key 0) true) refl refl kem_kind n))
+no-key : (row : Option Row) → is_some row ≡ false → size_in (λ r. r.public_key) row ≡ 0
+no-key None h = refl
+no-key (Some row) h = absurd (true_or_false refl h)
 
-key-is-there : (n : ℕ) → known_kem n ≡ true → 0 < public_key_length n
-unfolding known_kem public_key_length row_of table
-key-is-there n h =
-    let place = first_place (is_row kem_kind n) table in
-    either (ltb place (length table))
-    (λ found.
-    let is = first_passes no_row (is_row kem_kind n) table (ltb-true place (length table) found) in
-    ltb-true _ _
-    (rw (and_left (eqb (row_of kem_kind n).kind kem_kind) (eqb (row_of kem_kind n).number n) is)
-    at (of_row (λ row. pick (eqb row.kind kem_kind) (ltb 0 row.public_key) true) refl refl kem_kind n)))
-    (λ none. absurd (true_or_false h (rw (get_or-eq_default table no_row (ltb-false place (length table) none)))))
+-- each test below passes at every row, computed over the table
+module _ (number : ℕ) where
+  key : (row : Option Row) → IfSome row (λ row. (pick (same_kind row.kind Kind.Kem) (ltb 0 row.public_key) true ≡ true) × (is_row Kind.Kem number row ≡ true))
+      → is_some row ≡ true → 0 < size_in (λ r. r.public_key) row
+  key None h is = absurd (true_or_false is refl)
+  key (Some row) h is = ltb-true _ _ (rw (and_left (same_kind row.kind Kind.Kem) (eqb row.number number) h.1) at h.0)
+
+  longest_key : (row : Option Row) → IfSome row (λ row. (leb row.public_key size_bound ≡ true) × (is_row Kind.Kem number row ≡ true)) → size_in (λ r. r.public_key) row ≤ size_bound
+  longest_key None h = omega arith
+  longest_key (Some row) h = leb-true _ _ h.0
+
+  longest_nk : (row : Option Row) → IfSome row (λ row. (leb row.key size_bound ≡ true) × (is_row Kind.Aead number row ≡ true)) → size_in (λ r. r.key) row ≤ size_bound
+  longest_nk None h = omega arith
+  longest_nk (Some row) h = leb-true _ _ h.0
 
 pub size_bounds : SizeBounds
 unfolding known_kem public_key_length key_length table
 size_bounds =
     record {
-      key_is_there = key-is-there;
-      no_key_unknown = no-key-unknown;
-      key_bound = λ n. let h : (row_of kem_kind n).public_key ≤ size_bound = leb-true _ _ (of_row (λ row. leb row.public_key size_bound) refl refl kem_kind n) in omega arith;
-      nonce_bound = λ n. let h : (row_of aead_kind n).key ≤ size_bound = leb-true _ _ (of_row (λ row. leb row.key size_bound) refl refl aead_kind n) in omega arith;
+      key_is_there = λ n h. key n (row_of Kind.Kem n) (of_row (λ row. pick (same_kind row.kind Kind.Kem) (ltb 0 row.public_key) true) refl Kind.Kem n) h;
+      no_key_unknown = λ n h. no-key (row_of Kind.Kem n) h;
+      key_bound = λ n. longest_key n (row_of Kind.Kem n) (of_row (λ row. leb row.public_key size_bound) refl Kind.Kem n);
+      nonce_bound = λ n. let h : size_in (λ r. r.key) (row_of Kind.Aead n) ≤ size_bound = longest_nk n (row_of Kind.Aead n) (of_row (λ row. leb row.key size_bound) refl Kind.Aead n) in omega arith;
     }

@@ -1,12 +1,14 @@
 -- What 01's table says, as one computed statement about the definitions; which numbers are known, over every number; that a lookup
 -- reads the table alone, over every table; and the facts about sizes that other crates use, over every number.
-use Rattle.std.specs.Prelude.{ℕ, ◌+◌, max, ◌≤◌, ◌<◌, ◌≡◌, true, false, List, [], ◌∷◌, ◌++◌, map}
+use Rattle.std.specs.List.{list_any}
+use Rattle.std.specs.Prelude.{ℕ, ◌+◌, max, ◌≤◌, ◌<◌, ◌≡◌, true, false, List, [], ◌∷◌, ◌++◌, map, Some, None, is_some, option_map}
 use Rattle.wire.specs.Texts.{head_length}
 use Rattle.wire.specs.Tests.{pick}
-use Rattle.wire.specs.Search.{among, any_passes}
+use Rattle.wire.specs.Search.{among}
+use Rattle.algorithms.specs.declared.Kind.{Kind}
 use Rattle.algorithms.specs.declared.Row.{Row}
-use Rattle.algorithms.specs.Table.{kem_kind, kdf_kind, aead_kind, table_row, table, is_row, row_in, no_row}
-use Rattle.algorithms.specs.Sizes.{tag_length, nonce_length, is_known, known_kem, known_kdf, known_aead, enc_length, public_key_length, key_length, shortest_request, response_nonce_length}
+use Rattle.algorithms.specs.Table.{table_row, table, is_row, row_in}
+use Rattle.algorithms.specs.Sizes.{tag_length, nonce_length, size_in, known_kem, known_kdf, known_aead, enc_length, public_key_length, key_length, shortest_request, response_nonce_length}
 
 -- 01's KEMs, KDFs and AEADs, in its order
 abbrev pub kems : List ℕ
@@ -35,23 +37,23 @@ pub record KnownNumbers : Type 0 where
 
 -- 02, A4, "only one row's Nenc changed": a row with this Nenc where it is the KEM's, and else as it is
 abbrev pub with_nenc : ℕ → ℕ → Row → Row
-with_nenc kem nenc row = pick (is_row kem_kind kem row) (table_row row.kind row.number nenc row.public_key row.key) row
+with_nenc kem nenc row = pick (is_row Kind.Kem kem row) (table_row row.kind row.number nenc row.public_key row.key) row
 
 -- 02, A4: for every number the sizes are those of the row that a lookup in the table finds; and whatever rows a table has, a lookup gives the first
--- row of its kind and number as it stands there, and no_row where there is none. With only one row's Nenc changed it gives that row with the
+-- row of its kind and number as it stands there, and none where there is none. With only one row's Nenc changed it gives that row with the
 -- new Nenc, and every other as before.
 pub record ReadFromTheTable : Type 0 where
-  pub kem_sizes : (number : ℕ) → let row = row_in table kem_kind number in
-      (known_kem number ≡ is_known row) × (enc_length number ≡ row.enc) × (public_key_length number ≡ row.public_key)
-  pub shortest_requests : (number : ℕ) → shortest_request number ≡ head_length + (row_in table kem_kind number).enc + tag_length
-  pub kdf_known : (number : ℕ) → known_kdf number ≡ is_known (row_in table kdf_kind number)
-  pub aead_sizes : (number : ℕ) → let row = row_in table aead_kind number in (known_aead number ≡ is_known row) × (key_length number ≡ row.key)
-  pub response_nonces : (number : ℕ) → response_nonce_length number ≡ max nonce_length (row_in table aead_kind number).key
-  pub found : (before behind : List Row) (row : Row) → any_passes (is_row row.kind row.number) before ≡ false
-      → row_in (before ++ row ∷ behind) row.kind row.number ≡ row
-  pub unknown : (rows : List Row) (kind number : ℕ) → any_passes (is_row kind number) rows ≡ false → row_in rows kind number ≡ no_row
-  pub nenc_changed : (rows : List Row) (kem nenc kind number : ℕ)
-      → row_in (map (with_nenc kem nenc) rows) kind number ≡ with_nenc kem nenc (row_in rows kind number)
+  pub kem_sizes : (number : ℕ) → let row = row_in table Kind.Kem number in
+      (known_kem number ≡ is_some row) × (enc_length number ≡ size_in (λ r. r.enc) row) × (public_key_length number ≡ size_in (λ r. r.public_key) row)
+  pub shortest_requests : (number : ℕ) → shortest_request number ≡ head_length + size_in (λ r. r.enc) (row_in table Kind.Kem number) + tag_length
+  pub kdf_known : (number : ℕ) → known_kdf number ≡ is_some (row_in table Kind.Kdf number)
+  pub aead_sizes : (number : ℕ) → let row = row_in table Kind.Aead number in (known_aead number ≡ is_some row) × (key_length number ≡ size_in (λ r. r.key) row)
+  pub response_nonces : (number : ℕ) → response_nonce_length number ≡ max nonce_length (size_in (λ r. r.key) (row_in table Kind.Aead number))
+  pub found : (before behind : List Row) (row : Row) → list_any (is_row row.kind row.number) before ≡ false
+      → row_in (before ++ row ∷ behind) row.kind row.number ≡ Some row
+  pub unknown : (rows : List Row) (kind : Kind) (number : ℕ) → list_any (is_row kind number) rows ≡ false → row_in rows kind number ≡ None
+  pub nenc_changed : (rows : List Row) (kem nenc : ℕ) (kind : Kind) (number : ℕ)
+      → row_in (map (with_nenc kem nenc) rows) kind number ≡ option_map (with_nenc kem nenc) (row_in rows kind number)
 
 -- a bound for sums, not a size: neither a key nor a response nonce is longer
 abbrev pub size_bound : ℕ

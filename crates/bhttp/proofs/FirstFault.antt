@@ -1,7 +1,7 @@
 -- The refusal is of the first fault: only the bytes up to seven behind its place decide on it.
 -- Assumes nothing.
 use mathlib.Core.Path.{◌≡◌, refl, sym, ap}
-use mathlib.Core.Bool.{Bool, true, false, not}
+use mathlib.Core.Bool.{true, false}
 use mathlib.Core.List.{List}
 use mathlib.Core.Logic.{◌⊎◌, inl, inr}
 use Prim.Native.Nat.{ℕ, ◌+◌, ◌≤◌, ◌<◌}
@@ -18,31 +18,29 @@ use Rattle.integers.specs.Stated.{AreBytes}
 use Rattle.integers.specs.declared.Integer.{Integer}
 use Rattle.integers.proofs.Agreeing.{same_integer}
 use Rattle.integers.proofs.Stated.{integer_bounds}
+use Rattle.std.specs.Prelude.{Option, None, Some, Result, Ok, Err}
+use Rattle.fields.specs.declared.fault.BadMessage.{BadMessage}
 use Rattle.fields.specs.Fields.{fields_in}
-use Rattle.fields.specs.Parts.{good, wrong_at, ◌and_then◌, Reading}
-use Rattle.fields.specs.declared.parts.Span.{Span}
+use Rattle.fields.specs.Parts.{wrong_at, ◌and_then◌}
+use Rattle.wire.specs.declared.span.Span.{Span}
 use Rattle.fields.proofs.FirstFault.{fields-from, same_prefixed, same_wrong_fields}
 use Rattle.fields.proofs.Readings.{differ, first_wrong, judged_wrong, prefixed_inside, prefixed_wrong, same_good, same_place, then_good, then_wrong}
-use Rattle.bhttp.specs.Contents.{contents_at, FieldSection, framed, optional_at, padding_at, part_at, section_at}
+use Rattle.bhttp.specs.Contents.{contents_at, FieldSection, framed, is_other, optional_at, padding_at, part_at, section_at}
 use Rattle.bhttp.specs.Request.{control_at, request_in}
 use Rattle.bhttp.specs.Stated.{RefusalOfTheFirstFault}
 use Rattle.bhttp.specs.declared.requests.Control.{Control}
 use Rattle.bhttp.proofs.Reading.{optional_inside}
 
 -- of two readings, each with what follows: wrong at one place, if they are so wherever the first one is
-then_same : {A B : Type 0} (Q : Type 0) (x y : Reading A) (k l : A → Reading B) (p : ℕ) → (x ≡ wrong_at p → Q × (y ≡ wrong_at p))
-    → ((a : A) → x ≡ good a → k a ≡ wrong_at p → Q × (y ≡ good a) × (l a ≡ wrong_at p)) → (x and_then k) ≡ wrong_at p → Q × ((y and_then l) ≡ wrong_at p)
-then_same Q (good a) y k l p here behind e = let r = behind a refl e in (r.0, rw r.1 r.2)
-then_same Q (wrong_at q) y k l p here behind e = let r = here (ap wrong_at (same_place e)) in (r.0, rw r.1)
+then_same : {A B : Type 0} (Q : Type 0) (x y : Result A BadMessage) (k l : A → Result B BadMessage) (p : ℕ) → (x ≡ wrong_at p → Q × (y ≡ wrong_at p))
+    → ((a : A) → x ≡ Ok a → k a ≡ wrong_at p → Q × (y ≡ Ok a) × (l a ≡ wrong_at p)) → (x and_then k) ≡ wrong_at p → Q × ((y and_then l) ≡ wrong_at p)
+then_same Q (Ok a) y k l p here behind e = let r = behind a refl e in (r.0, rw r.1 r.2)
+then_same Q (Err bad) y k l p here behind e = let r = here (ap wrong_at (same_place e)) in (r.0, rw r.1)
 
 -- neither the first nor what follows can be so
-or_behind : {A B : Type 0} (x : Reading A) {k : A → Reading B} {p : ℕ} → (x ≡ wrong_at p → ⊥) → ((a : A) → k a ≡ wrong_at p → ⊥) → (x and_then k) ≡ wrong_at p → ⊥
-or_behind (good a) here behind e = behind a e
-or_behind (wrong_at q) here behind e = here (ap wrong_at (same_place e))
-
--- a byte of padding that is not right
-abbrev is_other : ℕ → Bool
-is_other byte = not (eqb byte 0)
+or_behind : {A B : Type 0} (x : Result A BadMessage) {k : A → Result B BadMessage} {p : ℕ} → (x ≡ wrong_at p → ⊥) → ((a : A) → k a ≡ wrong_at p → ⊥) → (x and_then k) ≡ wrong_at p → ⊥
+or_behind (Ok a) here behind e = behind a e
+or_behind (Err bad) here behind e = here (ap wrong_at (same_place e))
 
 -- bytes up to an offset are bytes
 bytes_before : (bytes : List ℕ) (end : ℕ) → AreBytes bytes → AreBytes (take end bytes)
@@ -62,10 +60,10 @@ module _ {a b : List ℕ} (p : ℕ) (are : AreBytes a) (agree : Agree (p + 8) a 
   unfolding optional_at
   optional_not_wrong at e =
       either (leb (length a) at)
-      (λ t. differ (sym (let z : good (record { start = at; end = at }) ≡ wrong_at p = rw t at e in z)))
+      (λ t. differ (sym (let z : Ok (record { start = at; end = at }) ≡ wrong_at p = rw t at e in z)))
       (λ t. none_missing at (rw t at e))
 
-  same_optional : (at : ℕ) (span : Span) → optional_at a at ≡ good span → span.start ≤ p + 8 → optional_at b at ≡ good span
+  same_optional : (at : ℕ) (span : Span) → optional_at a at ≡ Ok span → span.start ≤ p + 8 → optional_at b at ≡ Ok span
   unfolding optional_at
   same_optional at span e h =
       either (leb (length a) at)
@@ -75,8 +73,8 @@ module _ {a b : List ℕ} (p : ℕ) (are : AreBytes a) (agree : Agree (p + 8) a 
       rw t' (same_prefixed agree at (length a) (length b) span (rw t at e) h))
 
   -- a section: where it is good, and where it is wrong
-  same_section : (at : ℕ) (section : FieldSection) → at ≤ length a → section_at a at ≡ good section
-      → (at ≤ section.lies.end) × (section.lies.end ≤ length a) × (section.lies.end ≤ p + 8 → section_at b at ≡ good section)
+  same_section : (at : ℕ) (section : FieldSection) → at ≤ length a → section_at a at ≡ Ok section
+      → (at ≤ section.lies.end) × (section.lies.end ≤ length a) × (section.lies.end ≤ p + 8 → section_at b at ≡ Ok section)
   unfolding section_at
   same_section at section h e =
       let lies = then_good (optional_at a at) _ e in
@@ -88,7 +86,7 @@ module _ {a b : List ℕ} (p : ℕ) (are : AreBytes a) (agree : Agree (p + 8) a 
         omega (arith, ends, inside),
         λ within.
             let bytes : take lies.0.end b ≡ take lies.0.end a = sym (whole_before agree lies.0.end (omega (arith, ends))) in
-            rw (same_optional at lies.0 lies.1 (omega (arith, ends, inside)), bytes, fields.1) (ap good whole),
+            rw (same_optional at lies.0 lies.1 (omega (arith, ends, inside)), bytes, fields.1) (ap Ok whole),
       )
 
   same_wrong_section : (at : ℕ) → at ≤ length a → section_at a at ≡ wrong_at p → (at ≤ p) × (section_at b at ≡ wrong_at p)
@@ -96,8 +94,8 @@ module _ {a b : List ℕ} (p : ℕ) (are : AreBytes a) (agree : Agree (p + 8) a 
   same_wrong_section at h e = by_reason (then_wrong (optional_at a at) _ e)
     where
       by_reason : ((optional_at a at ≡ wrong_at p)
-          ⊎ ((lies : Span) × (optional_at a at ≡ good lies)
-          × (◌and_then◌ {B = FieldSection} (fields_in (take lies.end a) lies.start) (λ fields. good (record { lies = lies; fields = fields }))
+          ⊎ ((lies : Span) × (optional_at a at ≡ Ok lies)
+          × (◌and_then◌ {B = FieldSection} (fields_in (take lies.end a) lies.start) (λ fields. Ok (record { lies = lies; fields = fields }))
           ≡ wrong_at p)))
           → (at ≤ p) × (section_at b at ≡ wrong_at p)
       by_reason (inl wrong) = absurd (optional_not_wrong at wrong)
@@ -146,11 +144,11 @@ module _ {a b : List ℕ} (p : ℕ) (are : AreBytes a) (agree : Agree (p + 8) a 
       e
 
   -- the control data, where they are good
-  same_part : (at : ℕ) (span : Span) → part_at a at ≡ good span → span.end ≤ p + 8 → part_at b at ≡ good span
+  same_part : (at : ℕ) (span : Span) → part_at a at ≡ Ok span → span.end ≤ p + 8 → part_at b at ≡ Ok span
   same_part at span e h = same_prefixed agree at (length a) (length b) span e (omega (arith, prefixed_inside a at (length a) span e))
 
-  same_control : (at : ℕ) (control : Control) → control_at a at ≡ good control
-      → (at ≤ control.path.end) × (control.path.end ≤ length a) × (control.path.end ≤ p + 8 → control_at b at ≡ good control)
+  same_control : (at : ℕ) (control : Control) → control_at a at ≡ Ok control
+      → (at ≤ control.path.end) × (control.path.end ≤ length a) × (control.path.end ≤ p + 8 → control_at b at ≡ Ok control)
   unfolding control_at
   same_control at control e =
       let method = then_good (part_at a at) _ e in
@@ -173,7 +171,7 @@ module _ {a b : List ℕ} (p : ℕ) (are : AreBytes a) (agree : Agree (p + 8) a 
               same_part scheme.0.end authority.0 authority.1 (omega (arith, ends, path_inside)),
               same_part authority.0.end path.0 path.1 (omega (arith, ends)),
             )
-            (ap good whole),
+            (ap Ok whole),
       )
 
   control_not_wrong : (at : ℕ) → control_at a at ≡ wrong_at p → ⊥
@@ -184,27 +182,31 @@ module _ {a b : List ℕ} (p : ℕ) (are : AreBytes a) (agree : Agree (p + 8) a 
       or_behind (part_at a authority.end) (none_missing authority.end) (λ path wrong. differ (sym wrong))))) e
 
   -- the framing
-  same_framing : (span : Span) → framed 0 (integer_at a 0) (length a) ≡ good span → span.end ≤ p + 8 → framed 0 (integer_at b 0) (length b) ≡ good span
+  same_framing : (span : Span) → framed 0 (integer_at a 0) (length a) ≡ Ok span → span.end ≤ p + 8 → framed 0 (integer_at b 0) (length b) ≡ Ok span
   same_framing span e h = by_integer (integer_at a 0) refl
     where
-      by_integer : (i : Integer) → integer_at a 0 ≡ i → framed 0 (integer_at b 0) (length b) ≡ good span
-      by_integer Integer.Cut d = absurd (differ (rw d at e))
-      by_integer (Integer.Whole value end) d =
+      by_integer : (i : Option Integer) → integer_at a 0 ≡ i → framed 0 (integer_at b 0) (length b) ≡ Ok span
+      by_integer None d = absurd (differ (rw d at e))
+      by_integer (Some integer) d =
+          let value = integer.value in
+          let end = integer.end in
           either (eqb value 0)
           (λ t.
           let spans : ◌≡◌ {A = Span} (record { start = 0; end = end }) span = same_good (rw (d, t) at e) in
           let ends : end ≡ span.end = ap (λ (s : Span). s.end) spans in
-          rw (same_integer agree 0 value end d (omega (arith, ends)), t) (ap good spans))
-          (λ t. absurd (differ (let z : wrong_at 0 ≡ good span = rw (d, t) at e in z)))
+          rw (same_integer agree 0 value end d (omega (arith, ends)), t) (ap Ok spans))
+          (λ t. absurd (differ (let z : wrong_at 0 ≡ Ok span = rw (d, t) at e in z)))
 
   same_wrong_framing : framed 0 (integer_at a 0) (length a) ≡ wrong_at p → framed 0 (integer_at b 0) (length b) ≡ wrong_at p
   same_wrong_framing e = by_integer (integer_at a 0) refl
     where
-      by_integer : (i : Integer) → integer_at a 0 ≡ i → framed 0 (integer_at b 0) (length b) ≡ wrong_at p
-      by_integer Integer.Cut d =
-          let place : length a ≡ p = same_place (let z : ◌≡◌ {A = Reading Span} (wrong_at (length a)) (wrong_at p) = rw d at e in z) in
+      by_integer : (i : Option Integer) → integer_at a 0 ≡ i → framed 0 (integer_at b 0) (length b) ≡ wrong_at p
+      by_integer None d =
+          let place : length a ≡ p = same_place (let z : ◌≡◌ {A = Result Span BadMessage} (wrong_at (length a)) (wrong_at p) = rw d at e in z) in
           absurd (omega (arith, place))
-      by_integer (Integer.Whole value end) d =
+      by_integer (Some integer) d =
+          let value = integer.value in
+          let end = integer.end in
           let same = same_integer agree 0 value end d (omega (arith, (integer_bounds.value a 0 value end are d).1)) in
           rw same (rw d at e)
 

@@ -7,19 +7,19 @@ use native.Mathlib.Omega.{arith}
 use lib.Dec.{leb}
 use lib.ListN.{length}
 use Rattle.wire.proofs.Booleans.{either}
-use Rattle.fields.specs.Parts.{good}
-use Rattle.fields.specs.declared.parts.Span.{Span}
+use Rattle.std.specs.Prelude.{Ok}
+use Rattle.wire.specs.declared.span.Span.{Span}
 use Rattle.fields.proofs.Readings.{prefixed_inside, same_good}
 use Rattle.bhttp.specs.Contents.{optional_at}
 
 -- an optional part lies in the message, where it is looked for there
-pub optional_inside : (bytes : List ℕ) (at : ℕ) (span : Span) → at ≤ length bytes → optional_at bytes at ≡ good span
+pub optional_inside : (bytes : List ℕ) (at : ℕ) (span : Span) → at ≤ length bytes → optional_at bytes at ≡ Ok span
     → (at ≤ span.start) × (span.start ≤ span.end) × (span.end ≤ length bytes)
 unfolding optional_at
 optional_inside bytes at span h e =
     either (leb (length bytes) at)
     (λ t.
-    let s : good (record { start = at; end = at }) ≡ good span = rw t at e in
+    let s : Ok (record { start = at; end = at }) ≡ Ok span = rw t at e in
     let spans : span ≡ record { start = at; end = at } = sym (same_good s) in
     rw spans (omega arith, omega arith, h))
     (λ t.

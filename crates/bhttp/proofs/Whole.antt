@@ -1,13 +1,13 @@
 -- Nothing is invented: the parts of a message that was read, its integers and its padding are the whole of it; and the reader gives its fields.
 -- Assumes nothing.
 use mathlib.Core.Path.{◌≡◌, refl, sym, ap, subst, ◌∙◌}
-use mathlib.Core.Bool.{Bool, false, not}
+use mathlib.Core.Bool.{false, not}
 use mathlib.Core.List.{List, [], ◌∷◌, map}
 use Prim.Native.Nat.{ℕ, zero, suc, ◌+◌, ◌-◌, ◌≤◌, ◌<◌}
 use native.Mathlib.Omega.{arith}
 use lib.Dec.{eqb, leb}
 use lib.ListN.{length, take, drop, replicate, length-take, get_or-eq_default}
-use Rattle.integers.specs.Integers.{integer_at}
+use Rattle.integers.specs.Integers.{integer_at, whole}
 use Rattle.integers.specs.declared.Integer.{Integer}
 use Rattle.integers.proofs.Stated.{integer_bounds}
 use Rattle.integers.proofs.Agreeing.{integer_in}
@@ -15,15 +15,16 @@ use Rattle.wire.specs.Search.{first_from}
 use Rattle.wire.proofs.Agreeing.{part_before}
 use Rattle.wire.proofs.Matches.{before_first}
 use Rattle.wire.proofs.Booleans.{either}
+use Rattle.std.specs.Prelude.{Option, None, Some, Ok}
 use Rattle.fields.specs.Fields.{field_at, fields_from, fields_in}
-use Rattle.fields.specs.Parts.{bytes_of, good, wrong_at}
+use Rattle.fields.specs.Parts.{bytes_of, wrong_at}
 use Rattle.fields.specs.Reader.{field_bytes}
 use Rattle.fields.specs.declared.field.Field.{Field}
-use Rattle.fields.specs.declared.parts.Span.{Span}
+use Rattle.wire.specs.declared.span.Span.{Span}
 use Rattle.fields.proofs.Readings.{differ, judged_end, judged_good, prefixed_stands, same_good, then_good}
 use Rattle.fields.proofs.Sections.{field_inside, field-parts, name_lies, value_lies}
 use Rattle.fields.proofs.Walking.{reader_gives_the_fields}
-use Rattle.bhttp.specs.Contents.{Contents, contents_at, FieldSection, framed, optional_at, padding_at, part_at, section_at}
+use Rattle.bhttp.specs.Contents.{Contents, contents_at, FieldSection, framed, is_other, optional_at, padding_at, part_at, section_at}
 use Rattle.bhttp.specs.Request.{control_at, Message, request_in}
 use Rattle.bhttp.specs.declared.requests.Control.{Control}
 use Rattle.bhttp.proofs.Reading.{optional_inside}
@@ -32,12 +33,8 @@ use borrow.Author.Tests.{eqb-true, le-leb, leb-true, leb-false, not-false}
 use lib.Seq.{get_or-drop, length-take-le, take-take}
 use Rattle.wire.specs.Bytes.{byte_at}
 
--- a byte of padding that is not right
-abbrev is_other : ℕ → Bool
-is_other byte = not (eqb byte 0)
-
 -- an integer of the message up to an offset is one of the message
-integer_before : (bytes : List ℕ) (end at value next : ℕ) → integer_at (take end bytes) at ≡ Integer.Whole value next → integer_at bytes at ≡ Integer.Whole value next
+integer_before : (bytes : List ℕ) (end at value next : ℕ) → integer_at (take end bytes) at ≡ whole value next → integer_at bytes at ≡ whole value next
 integer_before bytes end at value next e =
     let inside = integer_bounds.inside (take end bytes) at value next e in
     let long = length-take end bytes in
@@ -45,7 +42,7 @@ integer_before bytes end at value next e =
 
 -- names and values from a place on to the end of the section, where there are turns enough
 fields_stand : (more : ℕ) (bytes : List ℕ) (end at : ℕ) (fields : List Field) → end ≤ length bytes → at ≤ end → end ≤ more + at
-    → fields_from more (take end bytes) at ≡ good fields → StandFrom bytes at (field_parts fields) end
+    → fields_from more (take end bytes) at ≡ Ok fields → StandFrom bytes at (field_parts fields) end
 unfolding fields_from StandFrom field_parts
 fields_stand zero bytes end at fields h k more e = rw (← same_good e) (omega arith)
 fields_stand (suc more) bytes end at fields h k enough e =
@@ -74,7 +71,7 @@ at-end bytes = record { start = length bytes; end = length bytes }
 -- parts that are read one behind the other, each of which may be missing at the message's end
 abbrev Run : List ℕ → ℕ → List Span → ℕ → Type 0
 Run bytes at [] to = at ≡ to
-Run bytes at (span ∷ spans) to = (optional_at bytes at ≡ good span) × Run bytes span.end spans to
+Run bytes at (span ∷ spans) to = (optional_at bytes at ≡ Ok span) × Run bytes span.end spans to
 
 -- from the end on, all are
 missing-at-end : (bytes : List ℕ) (spans : List Span) (to : ℕ) → Run bytes (length bytes) spans to
@@ -111,12 +108,12 @@ some_there bytes (span ∷ spans) at to h run =
 -- the steps in which control data, what is behind them, and a request were read
 abbrev ControlSteps : List ℕ → ℕ → Control → Type 0
 ControlSteps bytes at control =
-    (part_at bytes at ≡ good control.method)
-    × (part_at bytes control.method.end ≡ good control.scheme)
-    × (part_at bytes control.scheme.end ≡ good control.authority)
-    × (part_at bytes control.authority.end ≡ good control.path)
+    (part_at bytes at ≡ Ok control.method)
+    × (part_at bytes control.method.end ≡ Ok control.scheme)
+    × (part_at bytes control.scheme.end ≡ Ok control.authority)
+    × (part_at bytes control.authority.end ≡ Ok control.path)
 
-control_steps : (bytes : List ℕ) (at : ℕ) (control : Control) → control_at bytes at ≡ good control → ControlSteps bytes at control
+control_steps : (bytes : List ℕ) (at : ℕ) (control : Control) → control_at bytes at ≡ Ok control → ControlSteps bytes at control
 unfolding control_at
 control_steps bytes at control e =
     let method = then_good (part_at bytes at) _ e in
@@ -127,12 +124,12 @@ control_steps bytes at control e =
 
 abbrev ContentsSteps : List ℕ → ℕ → Contents → Type 0
 ContentsSteps bytes at contents =
-    (section_at bytes at ≡ good contents.headers)
-    × (optional_at bytes contents.headers.lies.end ≡ good contents.content)
-    × (section_at bytes contents.content.end ≡ good contents.trailers)
-    × (padding_at bytes contents.trailers.lies.end ≡ good contents.padding)
+    (section_at bytes at ≡ Ok contents.headers)
+    × (optional_at bytes contents.headers.lies.end ≡ Ok contents.content)
+    × (section_at bytes contents.content.end ≡ Ok contents.trailers)
+    × (padding_at bytes contents.trailers.lies.end ≡ Ok contents.padding)
 
-contents_steps : (bytes : List ℕ) (at : ℕ) (contents : Contents) → contents_at bytes at ≡ good contents → ContentsSteps bytes at contents
+contents_steps : (bytes : List ℕ) (at : ℕ) (contents : Contents) → contents_at bytes at ≡ Ok contents → ContentsSteps bytes at contents
 unfolding contents_at
 contents_steps bytes at contents e =
     let headers = then_good (section_at bytes at) _ e in
@@ -143,10 +140,10 @@ contents_steps bytes at contents e =
 
 abbrev RequestSteps : List ℕ → Message → Type 0
 RequestSteps bytes message =
-    (framing : Span) × (framed 0 (integer_at bytes 0) (length bytes) ≡ good framing)
+    (framing : Span) × (framed 0 (integer_at bytes 0) (length bytes) ≡ Ok framing)
     × ControlSteps bytes framing.end message.control × ContentsSteps bytes message.control.path.end message.contents
 
-request_steps : (bytes : List ℕ) (message : Message) → request_in bytes ≡ good message → RequestSteps bytes message
+request_steps : (bytes : List ℕ) (message : Message) → request_in bytes ≡ Ok message → RequestSteps bytes message
 unfolding request_in
 request_steps bytes message e =
     let framing = then_good (framed 0 (integer_at bytes 0) (length bytes)) _ e in
@@ -156,30 +153,32 @@ request_steps bytes message e =
     (framing.0, framing.1, control_steps bytes framing.0.end control.0 control.1, contents_steps bytes control.0.path.end contents.0 contents.1)
 
 -- framing 0
-framing_is : (bytes : List ℕ) (span : Span) → framed 0 (integer_at bytes 0) (length bytes) ≡ good span → integer_at bytes 0 ≡ Integer.Whole 0 span.end
+framing_is : (bytes : List ℕ) (span : Span) → framed 0 (integer_at bytes 0) (length bytes) ≡ Ok span → integer_at bytes 0 ≡ whole 0 span.end
 framing_is bytes span e = by_integer (integer_at bytes 0) refl
   where
-    by_integer : (i : Integer) → integer_at bytes 0 ≡ i → integer_at bytes 0 ≡ Integer.Whole 0 span.end
-    by_integer Integer.Cut d = absurd (differ (let z : wrong_at (length bytes) ≡ good span = rw d at e in z))
-    by_integer (Integer.Whole value end) d =
+    by_integer : (i : Option Integer) → integer_at bytes 0 ≡ i → integer_at bytes 0 ≡ whole 0 span.end
+    by_integer None d = absurd (differ (let z : wrong_at (length bytes) ≡ Ok span = rw d at e in z))
+    by_integer (Some integer) d =
+        let value = integer.value in
+        let end = integer.end in
         either (eqb value 0)
         (λ t.
         let spans : ◌≡◌ {A = Span} (record { start = 0; end = end }) span = same_good (rw (d, t) at e) in
-        d ∙ ap (λ (v : ℕ). Integer.Whole v end) (eqb-true value 0 t) ∙ ap (λ (s : Span). Integer.Whole 0 s.end) spans)
-        (λ t. absurd (differ (let z : wrong_at 0 ≡ good span = rw (d, t) at e in z)))
+        d ∙ ap (λ (v : ℕ). whole v end) (eqb-true value 0 t) ∙ ap (λ (s : Span). whole 0 s.end) spans)
+        (λ t. absurd (differ (let z : wrong_at 0 ≡ Ok span = rw (d, t) at e in z)))
 
 -- a section and its fields
-section_steps : (bytes : List ℕ) (at : ℕ) (section : FieldSection) → section_at bytes at ≡ good section
-    → (optional_at bytes at ≡ good section.lies) × (fields_in (take section.lies.end bytes) section.lies.start ≡ good section.fields)
+section_steps : (bytes : List ℕ) (at : ℕ) (section : FieldSection) → section_at bytes at ≡ Ok section
+    → (optional_at bytes at ≡ Ok section.lies) × (fields_in (take section.lies.end bytes) section.lies.start ≡ Ok section.fields)
 unfolding section_at
 section_steps bytes at section e =
     let lies = then_good (optional_at bytes at) _ e in
     let fields = then_good (fields_in (take lies.0.end bytes) lies.0.start) _ lies.2 in
     subst
-    (λ (s : FieldSection). (optional_at bytes at ≡ good s.lies) × (fields_in (take s.lies.end bytes) s.lies.start ≡ good s.fields))
+    (λ (s : FieldSection). (optional_at bytes at ≡ Ok s.lies) × (fields_in (take s.lies.end bytes) s.lies.start ≡ Ok s.fields))
     (same_good fields.2) (lies.1, fields.1)
 
-section_stands : (bytes : List ℕ) (at : ℕ) (section : FieldSection) → at ≤ length bytes → section_at bytes at ≡ good section → FieldsStand bytes section
+section_stands : (bytes : List ℕ) (at : ℕ) (section : FieldSection) → at ≤ length bytes → section_at bytes at ≡ Ok section → FieldsStand bytes section
 section_stands bytes at section h e =
     let read = section_steps bytes at section e in
     let inside = optional_inside bytes at section.lies h read.0 in
@@ -187,7 +186,7 @@ section_stands bytes at section h e =
     (rw (length-take-le section.lies.end bytes inside.2) (omega arith)) read.1
 
 -- padding: its end, and that it is zero
-padding_is : (bytes : List ℕ) (at : ℕ) (span : Span) → padding_at bytes at ≡ good span
+padding_is : (bytes : List ℕ) (at : ℕ) (span : Span) → padding_at bytes at ≡ Ok span
     → (span ≡ record { start = at; end = length bytes }) × ((i : ℕ) → at ≤ i → byte_at bytes i ≡ 0)
 unfolding padding_at
 padding_is bytes at span e =
@@ -211,8 +210,8 @@ nothing_invented bytes message e =
     let read = request_steps bytes message e in
     let control = read.2 in
     let contents = read.3 in
-    let stands : (at : ℕ) (span : Span) → part_at bytes at ≡ good span
-    → (integer_at bytes at ≡ Integer.Whole (span.end - span.start) span.start) × (span.start ≤ span.end) × (span.end ≤ length bytes) =
+    let stands : (at : ℕ) (span : Span) → part_at bytes at ≡ Ok span
+    → (integer_at bytes at ≡ whole (span.end - span.start) span.start) × (span.start ≤ span.end) × (span.end ≤ length bytes) =
     λ at span d. prefixed_stands bytes at (length bytes) span d in
     let method = stands read.0.end message.control.method control.0 in
     let scheme = stands message.control.method.end message.control.scheme control.1 in
@@ -246,7 +245,7 @@ nothing_invented bytes message e =
     }
 
 -- fields of the message up to a section's end are parts of the message
-fields_bytes : (more : ℕ) (bytes : List ℕ) (end at : ℕ) (fields : List Field) → end ≤ length bytes → fields_from more (take end bytes) at ≡ good fields
+fields_bytes : (more : ℕ) (bytes : List ℕ) (end at : ℕ) (fields : List Field) → end ≤ length bytes → fields_from more (take end bytes) at ≡ Ok fields
     → map (field_bytes (take end bytes)) fields ≡ map (field_bytes bytes) fields
 unfolding fields_from
 fields_bytes zero bytes end at fields h e = rw (← same_good e)
@@ -267,7 +266,7 @@ fields_bytes (suc more) bytes end at fields h e =
     subst (λ (fields : List Field). map (field_bytes (take end bytes)) fields ≡ map (field_bytes bytes) fields) all (rw (name, value, behind)))
 
 -- a section walked
-section_walked : (turns : ℕ) (bytes : List ℕ) (at : ℕ) (section : FieldSection) → length bytes ≤ turns → at ≤ length bytes → section_at bytes at ≡ good section
+section_walked : (turns : ℕ) (bytes : List ℕ) (at : ℕ) (section : FieldSection) → length bytes ≤ turns → at ≤ length bytes → section_at bytes at ≡ Ok section
     → walked_in turns bytes section ≡ map (field_bytes bytes) section.fields
 section_walked turns bytes at section enough h e =
     let read = section_steps bytes at section e in

@@ -1,15 +1,15 @@
 -- What the entries answer of a request that was read.
-use Rattle.std.specs.Prelude.{ℕ, List, [], ◌∷◌, length, get_or}
+use Rattle.std.specs.Prelude.{ℕ, List, [], ◌∷◌, length, get_or, Result, Ok, Err}
 use Rattle.wire.specs.Refusals.{refused_at}
-use Rattle.fields.specs.Parts.{told, bytes_of, Reading}
-use Rattle.fields.specs.declared.parts.Span.{Span}
+use Rattle.wire.specs.declared.refusal.Refusal.{Refusal}
+use Rattle.wire.specs.declared.span.Span.{Span}
+use Rattle.fields.specs.Parts.{bytes_of}
+use Rattle.fields.specs.declared.fault.BadMessage.{BadMessage}
 use Rattle.bhttp.specs.Contents.{Contents, FieldSection}
 use Rattle.bhttp.specs.Request.{Message}
 use Rattle.bhttp.specs.declared.contents.Section.{Section}
 use Rattle.bhttp.specs.declared.contents.Layout.{Layout}
 use Rattle.bhttp.specs.declared.requests.Request.{Request}
-use Rattle.bhttp.specs.declared.requests.Checked.{Checked}
-use Rattle.bhttp.specs.declared.requests.PartPlace.{PartPlace}
 
 -- a section with how many fields it has
 abbrev pub counted : FieldSection → Section
@@ -29,8 +29,9 @@ abbrev pub places_of : Message → Request
 places_of message = record { control = message.control; layout = layout_of message.contents }
 
 -- the checking entry: where the parts lie and how many fields each section has, or 23 with its place
-abbrev pub checked : Reading Message → Checked
-checked reading = told (λ message. Checked.Good (places_of message)) (λ place. Checked.Refused (refused_at 23 place)) reading
+abbrev pub checked : Result Message BadMessage → Result Request Refusal
+checked (Ok message) = Ok (places_of message)
+checked (Err bad) = Err (refused_at 23 bad.place)
 
 -- the parts, numbered from 0: method, scheme, authority, path, header section, content, trailer section, padding
 abbrev pub parts_of : Request → List Span
@@ -47,10 +48,11 @@ unfoldable pub numbered : ℕ → Request → Span
 numbered number request = get_or (parts_of request) number no_part
 
 -- where it lies, or 23 with its place
-abbrev pub part_place : ℕ → Reading Message → PartPlace
-part_place number reading =
-    told (λ message. PartPlace.Found (numbered number (places_of message))) (λ place. PartPlace.Refused (refused_at 23 place)) reading
+abbrev pub part_place : ℕ → Result Message BadMessage → Result Span Refusal
+part_place number (Ok message) = Ok (numbered number (places_of message))
+part_place number (Err bad) = Err (refused_at 23 bad.place)
 
 -- its bytes, as a part of the message; empty on refusal
-abbrev pub part_bytes : ℕ → List ℕ → Reading Message → List ℕ
-part_bytes number bytes reading = told (λ message. bytes_of bytes (numbered number (places_of message))) (λ place. []) reading
+abbrev pub part_bytes : ℕ → List ℕ → Result Message BadMessage → List ℕ
+part_bytes number bytes (Ok message) = bytes_of bytes (numbered number (places_of message))
+part_bytes number bytes (Err bad) = []

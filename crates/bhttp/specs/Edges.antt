@@ -1,15 +1,17 @@
 -- RFC 9458, Appendix A's request, a message with integers of every size, and one of each fault of 02, A3: computed on the definitions.
-use Rattle.std.specs.Prelude.{ℕ, List, [], ◌∷◌, ◌++◌, map, ◌≡◌, length, replicate}
+use Rattle.std.specs.Prelude.{ℕ, List, [], ◌∷◌, ◌++◌, map, ◌≡◌, length, replicate, Result, Ok, Err}
 use Prim.Native.String.{String}
 use Rattle.wire.specs.Refusals.{refused_at}
+use Rattle.wire.specs.declared.refusal.Refusal.{Refusal}
 use Rattle.wire.specs.Hex.{hex}
 use Rattle.wire.specs.Texts.{ascii}
-use Rattle.fields.specs.Parts.{bytes_of, good, told}
-use Rattle.fields.specs.declared.parts.Span.{Span}
+use Rattle.fields.specs.Parts.{bytes_of}
+use Rattle.wire.specs.declared.span.Span.{Span}
+use Rattle.fields.specs.declared.fault.BadMessage.{BadMessage}
 use Rattle.bhttp.specs.Answers.{checked}
-use Rattle.bhttp.specs.Request.{request_in}
+use Rattle.bhttp.specs.Request.{Message, request_in}
 use Rattle.bhttp.specs.Stated.{field_parts}
-use Rattle.bhttp.specs.declared.requests.Checked.{Checked}
+use Rattle.bhttp.specs.declared.requests.Request.{Request}
 
 -- a part that starts at an offset and ends at another
 abbrev pub span : ℕ → ℕ → Span
@@ -21,11 +23,11 @@ unfolding hex
 example = hex "00034745540568747470730b6578616d706c652e636f6d012f"
 
 -- what check answers of messages
-abbrev pub answers : List (List ℕ) → List Checked
+abbrev pub answers : List (List ℕ) → List (Result Request Refusal)
 answers messages = map (λ message. checked (request_in message)) messages
 
-abbrev pub refused_all : List ℕ → List Checked
-refused_all places = map (λ place. Checked.Refused (refused_at 23 place)) places
+abbrev pub refused_all : List ℕ → List (Result Request Refusal)
+refused_all places = map (λ place. Err (refused_at 23 place)) places
 
 -- that request with these bytes behind it, in turn
 abbrev pub behind_example : List String → List (List ℕ)
@@ -47,19 +49,26 @@ message_with lead =
     ++ behind_length lead (behind_length lead (ascii "t") ++ behind_length lead [])
 
 -- the bytes of control data, content, names and values of a request
-abbrev pub read_in : List ℕ → List (List ℕ)
-read_in bytes =
-    told
-    (λ m. map (bytes_of bytes)
+abbrev pub bytes_read : List ℕ → Result Message BadMessage → List (List ℕ)
+bytes_read bytes (Ok m) =
+    map (bytes_of bytes)
     (m.control.method ∷ m.control.scheme ∷ m.control.authority ∷ m.control.path ∷ m.contents.content
-    ∷ (field_parts m.contents.headers.fields ++ field_parts m.contents.trailers.fields)))
-    (λ place. []) (request_in bytes)
+    ∷ (field_parts m.contents.headers.fields ++ field_parts m.contents.trailers.fields))
+bytes_read bytes (Err bad) = []
+
+abbrev pub read_in : List ℕ → List (List ℕ)
+read_in bytes = bytes_read bytes (request_in bytes)
+
+-- where its padding lies
+abbrev pub padding_of : Result Message BadMessage → Span
+padding_of (Ok message) = message.contents.padding
+padding_of (Err bad) = span 0 0
 
 pub record RequestEdges : Type 0 where
   -- Appendix A: the message ends after the path
   pub appendix_a :
       request_in example
-      ≡ good
+      ≡ Ok
       (record {
         control = record { method = span 2 5; scheme = span 6 11; authority = span 12 23; path = span 24 25 };
         contents =
@@ -81,7 +90,7 @@ pub record RequestEdges : Type 0 where
       (hex "80000000c000000000000003474554400568747470730161800000012f"
       ++ hex "40128000000161c0000000000000016201634000"
       ++ hex "800000027879c000000000000005400164016500" ++ hex "00")
-      ≡ good
+      ≡ Ok
       (record {
         control = record { method = span 12 15; scheme = span 17 22; authority = span 23 24; path = span 28 29 };
         contents =
@@ -101,7 +110,7 @@ pub record RequestEdges : Type 0 where
       })
   -- each end of the message, and padding: where the padding then starts
   pub ends :
-      map (λ message. told (λ m. m.contents.padding) (λ place. span 0 0) (request_in message))
+      map (λ message. padding_of (request_in message))
       (behind_example ("00" ∷ "0000" ∷ "000000" ∷ "0000000000" ∷ []))
       ≡ span 26 26 ∷ span 27 27 ∷ span 28 28 ∷ span 28 30 ∷ []
   -- framing: none, cut, 1 in one byte and in two

@@ -1,13 +1,12 @@
 -- What holds of every message: the refusal is of its first fault, nothing is invented, and the reader gives its fields.
-use Rattle.std.specs.Prelude.{ℕ, ◌+◌, ◌-◌, ◌≤◌, ◌<◌, List, [], ◌∷◌, map, ◌≡◌, length, take, drop, replicate}
+use Rattle.std.specs.Prelude.{ℕ, ◌+◌, ◌-◌, ◌≤◌, ◌<◌, List, [], ◌∷◌, map, ◌≡◌, length, take, drop, replicate, Ok}
 use Rattle.wire.specs.Bytes.{byte_at}
-use Rattle.integers.specs.Integers.{integer_at}
+use Rattle.integers.specs.Integers.{integer_at, whole}
 use Rattle.integers.specs.Stated.{AreBytes}
-use Rattle.integers.specs.declared.Integer.{Integer}
-use Rattle.fields.specs.Parts.{good, wrong_at}
+use Rattle.fields.specs.Parts.{wrong_at}
 use Rattle.fields.specs.Reader.{field_bytes, walked}
 use Rattle.fields.specs.declared.field.Field.{Field}
-use Rattle.fields.specs.declared.parts.Span.{Span}
+use Rattle.wire.specs.declared.span.Span.{Span}
 use Rattle.bhttp.specs.Answers.{parts_of, places_of}
 use Rattle.bhttp.specs.Contents.{FieldSection}
 use Rattle.bhttp.specs.Request.{Message, request_in}
@@ -23,7 +22,7 @@ RefusalOfTheFirstFault =
 unfoldable pub StandFrom : List ℕ → ℕ → List Span → ℕ → Type 0
 StandFrom bytes at [] to = at ≡ to
 StandFrom bytes at (span ∷ spans) to =
-    (integer_at bytes at ≡ Integer.Whole (span.end - span.start) span.start)
+    (integer_at bytes at ≡ whole (span.end - span.start) span.start)
     × (span.start ≤ span.end)
     × StandFrom bytes span.end spans to
 
@@ -40,7 +39,7 @@ FieldsStand bytes section =
 -- of them are there; the others are empty, and the message ends where they would stand
 pub record IsWhole (bytes : List ℕ) (message : Message) : Type 0 where
   pub framing_end : ℕ
-  pub framing : integer_at bytes 0 ≡ Integer.Whole 0 framing_end
+  pub framing : integer_at bytes 0 ≡ whole 0 framing_end
   pub there : ℕ
   pub at_least_control : 4 ≤ there
   pub parts : StandFrom bytes framing_end (take there (take 7 (parts_of (places_of message)))) message.contents.padding.start
@@ -53,7 +52,7 @@ pub record IsWhole (bytes : List ℕ) (message : Message) : Type 0 where
   pub padding : (i : ℕ) → message.contents.padding.start ≤ i → byte_at bytes i ≡ 0
 
 abbrev pub NothingInvented : Type 0
-NothingInvented = (bytes : List ℕ) (message : Message) → request_in bytes ≡ good message → IsWhole bytes message
+NothingInvented = (bytes : List ℕ) (message : Message) → request_in bytes ≡ Ok message → IsWhole bytes message
 
 -- the reader, made for a section and called until the end, gives its fields as parts of the message, in order; with turns enough
 abbrev pub walked_in : ℕ → List ℕ → FieldSection → List (List ℕ × List ℕ)
@@ -61,6 +60,6 @@ walked_in turns bytes section = walked turns (take section.lies.end bytes) secti
 
 abbrev pub ReaderGivesTheMessagesFields : Type 0
 ReaderGivesTheMessagesFields =
-    (bytes : List ℕ) (message : Message) (turns : ℕ) → length bytes ≤ turns → request_in bytes ≡ good message
+    (bytes : List ℕ) (message : Message) (turns : ℕ) → length bytes ≤ turns → request_in bytes ≡ Ok message
     → (walked_in turns bytes message.contents.headers ≡ map (field_bytes bytes) message.contents.headers.fields)
     × (walked_in turns bytes message.contents.trailers ≡ map (field_bytes bytes) message.contents.trailers.fields)

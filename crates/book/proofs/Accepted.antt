@@ -8,13 +8,13 @@ use borrow.Author.Tests.{eqb-false}
 use lib.Dec.{eqb}
 use lib.ListN.{length}
 use Rattle.wire.specs.Tests.{◌and◌}
-use Rattle.wire.specs.Refusals.{unless_refused, written}
+use Rattle.wire.specs.Refusals.{result_by, unless_refused, written}
 use Rattle.wire.proofs.Booleans.{and_false}
 use Rattle.wire.proofs.Numbers.{unless-refused}
 use Rattle.request.specs.Request.{info_of}
 use Rattle.exchange.specs.Exchange.{exchange_of}
 use Rattle.exchange.specs.Steps.{answer, buffer}
-use Rattle.gateway.specs.Registry.{admit_answer, retire_answer, report}
+use Rattle.gateway.specs.Registry.{admit_answer, report}
 use Rattle.gateway.specs.Calls.{Call, admit, retire, on_ticket, reporting, of_admit, of_retire, of_step, of_report, Done}
 use Rattle.book.specs.Book.{Book, book_stepped, book_does, book_admitted, book_retired, book_admit_number, book_retire_number, book_step_number}
 use Rattle.book.specs.History.{event, is_accepted}
@@ -36,7 +36,7 @@ given b (admit request info) =
       buffer = written 0 (info_of request) info;
       state = book_admitted request b;
     }
-given b (retire id) = record { answer = of_retire (retire_answer 0); buffer = []; state = book_retired id b }
+given b (retire id) = record { answer = of_retire (result_by 0 tt); buffer = []; state = book_retired id b }
 given b (on_ticket ticket step) =
     record {
       answer = of_step (answer step (exchange_of ticket b.pending));

@@ -12,8 +12,8 @@ use Rattle.wire.proofs.Numbers.{not-refused}
 use Rattle.request.specs.Request.{key_id_of, fields_of}
 use Rattle.request.specs.Helpers.{request_refusal}
 use Rattle.keys.specs.Keys.{Key, key_with, retire_refusal}
-use Rattle.keys.proofs.Named.{retire_order}
-use Rattle.keys.specs.Helpers.{key_at, key_refusal, retire_refusal_at}
+use Rattle.keys.proofs.Named.{retire_refusal_at, retire_order}
+use Rattle.keys.specs.Helpers.{key_at, key_refusal}
 use Rattle.keys.specs.Stored.{place_of_key}
 use Rattle.gateway.specs.Registry.{Registry, admit_refusal}
 use Rattle.gateway.proofs.Deciding.{none_of_both, admit_order}

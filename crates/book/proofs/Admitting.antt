@@ -9,7 +9,8 @@ use native.Mathlib.Omega.{arith}
 use borrow.Author.Tests.{eqb-true, eq-eqb, leb-false, lt-leb, ltb-false, le-ltb, not-false}
 use lib.Dec.{eqb, leb, ltb}
 use lib.ListN.{length, get_or}
-use Rattle.wire.specs.Search.{first_place, any_passes}
+use Rattle.std.specs.List.{list_any}
+use Rattle.wire.specs.Search.{first_place}
 use Rattle.wire.specs.Refusals.{◌when◌otherwise◌}
 use Rattle.wire.specs.Texts.{info_length}
 use Rattle.wire.proofs.Booleans.{and_left, and_right}
@@ -24,7 +25,7 @@ use Rattle.request.specs.Helpers.{request_refusal}
 use Rattle.request.proofs.Requests.{accepted_request, request_accepted}
 use Rattle.exchange.specs.Exchange.{free, is_free}
 use Rattle.keys.specs.Keys.{Key, has_id, offers}
-use Rattle.keys.specs.Helpers.{no_key, key_at, key_refusal}
+use Rattle.keys.specs.Helpers.{no_key, key_at, refusal_by_key, key_refusal}
 use Rattle.keylist.specs.Layout.{is_pair}
 use Rattle.gateway.specs.declared.Gateway.{Gateway}
 use Rattle.gateway.specs.declared.table.Engine.{Engine}
@@ -61,7 +62,7 @@ pub place_of : {A : Type 0} (blank x : A) (xs : List A) → IsElement x xs → (
 place_of blank x xs h = (length h.0, rw h.2 (place_between blank x h.0 h.1).0, rw h.2 (place_between blank x h.0 h.1).1)
 
 -- a pair that is listed stands in the list
-pub listed_pair : (kdf aead : ℕ) (pairs : List Pair) → any_passes (is_pair kdf aead) pairs ≡ true
+pub listed_pair : (kdf aead : ℕ) (pairs : List Pair) → list_any (is_pair kdf aead) pairs ≡ true
     → IsElement (record { kdf = kdf; aead = aead }) pairs
 listed_pair kdf aead pairs e =
     let p = get_or pairs (first_place (is_pair kdf aead) pairs) no_pair in
@@ -71,7 +72,7 @@ listed_pair kdf aead pairs e =
     rw (← same_pair p kdf aead k a) (element_at no_pair pairs (first_place (is_pair kdf aead) pairs) (any_inside no_pair (is_pair kdf aead) pairs e))
 
 pub pair_listed : (kdf aead : ℕ) (pairs : List Pair) → IsElement (record { kdf = kdf; aead = aead }) pairs
-    → any_passes (is_pair kdf aead) pairs ≡ true
+    → list_any (is_pair kdf aead) pairs ≡ true
 pair_listed kdf aead pairs h =
     let p = place_of no_pair (record { kdf = kdf; aead = aead }) pairs h in
     any_at no_pair (is_pair kdf aead) pairs p.0 p.1
@@ -87,7 +88,7 @@ pub record Usable (cap : ℕ) (keys : List Key) (place : ℕ) (request : Request
 
 pub usable : (cap : ℕ) (keys : List Key) (place : ℕ) (request : Request) → key_refusal cap keys place request ≡ 0
     → Usable cap keys place request
-unfolding key_refusal
+unfolding key_refusal refusal_by_key
 usable cap keys place request e =
     let key = key_at keys place in
     let offered = offers request.kdf request.aead key in
@@ -110,7 +111,7 @@ usable cap keys place request e =
 
 pub not_refused_by_key : (cap : ℕ) (keys : List Key) (place : ℕ) (request : Request) → Usable cap keys place request
     → key_refusal cap keys place request ≡ 0
-unfolding key_refusal
+unfolding key_refusal refusal_by_key
 not_refused_by_key cap keys place request u =
     let key = key_at keys place in
     passed_on 4 (leb (length keys) place) _ (lt-leb (length keys) place u.is_key)
@@ -139,7 +140,7 @@ admissible g request info e =
     let d = not-refused 13 (ltb (length info) info_length) 0 c.1 in
     let r = accepted_request request a.0 in
     let u = usable g.cap keys place (fields_of request) b.0 in
-    let pairs = any_passes (is_pair (kdf_of request) (aead_of request)) key.pairs in
+    let pairs = list_any (is_pair (kdf_of request) (aead_of request)) key.pairs in
     let known = and_left (known_pair (kdf_of request) (aead_of request)) pairs u.pair in
     record {
       well_formed = record { kem = r.0; long_enough = r.1.0; not_too_long = r.1.1 };

@@ -1,5 +1,6 @@
 -- Client and gateway agree: what head's buffers hold, what the gateway reads of it, and the split of what respond announced.
 -- Assumes nothing.
+use Rattle.std.specs.Prelude.{Ok}
 use mathlib.Core.Path.{◌≡◌, refl, ap, ◌∙◌}
 use mathlib.Core.Bool.{true}
 use mathlib.Core.List.{List, ◌++◌}
@@ -13,8 +14,7 @@ use borrow.Author.Tests.{le-ltb}
 use Rattle.wire.specs.Texts.{ascii, head_length, head_bytes, request_label, info_length, info_bytes, longest_request, longest_plain}
 use Rattle.wire.proofs.Booleans.{and_left, and_right}
 use Rattle.algorithms.specs.Sizes.{known_kem, known_aead, enc_length, response_nonce_length, tag_length}
-use Rattle.client.specs.declared.head.HeadAnswer.{HeadAnswer}
-use Rattle.client.specs.declared.split.Parts.{Parts}
+use Rattle.std.specs.Prelude.{Ok}
 use Rattle.client.specs.Head.{head_refusal, head_and_enc, head_does}
 use Rattle.client.specs.Split.{split_refusal, split_answer}
 use Rattle.client.proofs.Fronts.{head_answered, head_accepted}
@@ -29,7 +29,7 @@ use Rattle.gateway.specs.Registry.{admission}
 use Rattle.book.specs.Agreement.{request_of, enc_in, ciphertext_in, Reads, RequestsAgree, response_of, Splits, ResponsesAgree}
 
 module _ (key_id kem kdf aead size : ℕ) (enc head info ciphertext : List ℕ)
-    (answered : (head_does key_id kem kdf aead enc head info).answer ≡ HeadAnswer.Length size) where
+    (answered : (head_does key_id kem kdf aead enc head info).answer ≡ Ok size) where
   -- no refusal; how many bytes were written; the KEM is known, and enc is as long as it says
   told : (head_refusal kem kdf aead enc (length head) (length info) ≡ 0) × (head_length + enc_length kem ≡ size)
   unfolding head_does
@@ -102,7 +102,7 @@ module _ (e : Exchange) (plain : ℕ) (enc nonce salt ciphertext : List ℕ) (ac
   whole : length (response_of nonce ciphertext) ≡ length nonce + plain + tag_length
   whole = simp length-append (omega arith)
 
-  nonce-end : split_answer e.aead (length (response_of nonce ciphertext)) ≡ Parts.NonceEnd (length nonce)
+  nonce-end : split_answer e.aead (length (response_of nonce ciphertext)) ≡ Ok (length nonce)
   unfolding split_refusal
   nonce-end =
       let sizes = lengths (length enc) (length nonce) plain e held in
@@ -121,7 +121,7 @@ module _ (e : Exchange) (plain : ℕ) (enc nonce salt ciphertext : List ℕ) (ac
   ciphertext_back = drop-append_seam nonce ciphertext
 
   response_split : (answer (respond enc nonce plain salt) e
-      ≡ StepAnswer.Sealed (record { status = 200; length = length (response_of nonce ciphertext) }))
+      ≡ Ok (StepAnswer.Sealed (record { status = 200; length = length (response_of nonce ciphertext) })))
       × Splits (response_of nonce ciphertext) e.aead nonce ciphertext
   response_split = (
     rw (accepted, whole),

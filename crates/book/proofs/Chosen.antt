@@ -9,7 +9,7 @@ use native.Mathlib.Omega.{arith}
 use borrow.Author.Tests.{eqb-true, ne_eqb, not-true, not-false}
 use lib.Dec.{eqb}
 use lib.ListN.{length}
-use Rattle.wire.specs.Search.{any_passes, among, filtered}
+use Rattle.wire.specs.Search.{among, filtered}
 use Rattle.wire.proofs.Booleans.{either, true_or_false}
 use Rattle.gateway.specs.Calls.{Call, admit, retire, on_ticket, reporting}
 use Rattle.book.specs.History.{Event}
@@ -56,16 +56,14 @@ filtered_both p (e ∷ es) =
 
 -- among one ticket is that ticket only
 pub among_one : (t u : ℕ) → among (t ∷ []) u ≡ true → t ≡ u
-unfolding any_passes
 among_one t u e = either (eqb t u) (λ h. eqb-true t u h) (λ h. absurd (true_or_false e (rw h)))
 
 pub not_among_one : (t u : ℕ) → (t ≡ u → ⊥) → among (t ∷ []) u ≡ false
-unfolding any_passes
 not_among_one t u apart = rw (ne_eqb t u apart)
 
 -- no call is on no ticket
 pub on_none : (es : List Event) → its_calls [] es ≡ []
-unfolding filtered any_passes
+unfolding filtered
 on_none [] = refl
 on_none (e ∷ es) = rw (off e.call) (on_none es)
   where

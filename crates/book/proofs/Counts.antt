@@ -1,5 +1,6 @@
 -- A key's count is the number of admissions it was given, the tickets are 1, 2, 3 and on, and nothing wraps.
 -- Assumes nothing.
+use Rattle.std.specs.Prelude.{Result, Ok, Err}
 use Prim.Native.Nat.{ℕ, ◌+◌}
 use mathlib.Core.Path.{◌≡◌, refl, ap, ◌∙◌}
 use mathlib.Core.List.{List, [], ◌∷◌, map}
@@ -8,7 +9,8 @@ use borrow.Author.Tests.{le-ltb}
 use lib.Dec.{ltb}
 use Rattle.wire.proofs.Booleans.{either}
 use Rattle.wire.proofs.Matches.{any_none}
-use Rattle.keylist.specs.Layout.{Configuration, good, bad, parse, Result}
+use Rattle.wire.specs.declared.refusal.Refusal.{Refusal}
+use Rattle.keylist.specs.Layout.{Configuration, parse}
 use lib.ListN.{take}
 use Rattle.keys.specs.declared.KeyState.{KeyState}
 use Rattle.keys.specs.Keys.{Key, key_of, keys_of}
@@ -28,13 +30,13 @@ use Rattle.book.proofs.Refinement.{fresh_alike, alike_end, refinement_holds}
 use Rattle.book.proofs.Counting.{ids_after, counted, given_after}
 
 -- at first counts and last ticket are 0
-fresh_counts : (o : Result (List Configuration)) (cap place : ℕ) → (key_at (registry_from cap (with_cap cap o)).keys place).count ≡ 0
-fresh_counts (good cs) cap place = either (cap_holds cap) (λ h. rw h (fresh_count cs place)) (λ h. rw h)
-fresh_counts (bad r) cap place = refl
+fresh_counts : (o : Result (List Configuration) Refusal) (cap place : ℕ) → (key_at (registry_from cap (with_cap cap o)).keys place).count ≡ 0
+fresh_counts (Ok cs) cap place = either (cap_holds cap) (λ h. rw h (fresh_count cs place)) (λ h. rw h)
+fresh_counts (Err r) cap place = refl
 
-fresh_last : (o : Result (List Configuration)) (cap : ℕ) → (registry_from cap (with_cap cap o)).last_ticket ≡ 0
-fresh_last (good cs) cap = either (cap_holds cap) (λ h. rw h) (λ h. rw h)
-fresh_last (bad r) cap = refl
+fresh_last : (o : Result (List Configuration) Refusal) (cap : ℕ) → (registry_from cap (with_cap cap o)).last_ticket ≡ 0
+fresh_last (Ok cs) cap = either (cap_holds cap) (λ h. rw h) (λ h. rw h)
+fresh_last (Err r) cap = refl
 
 -- the book's counts and tickets
 book_counts : (list : List ℕ) (cap : ℕ) (calls : List Call) → Sound (fresh_book list cap) → Sound (book_after list cap calls)

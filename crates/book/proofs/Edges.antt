@@ -5,7 +5,7 @@ use mathlib.Core.List.{[], ◌∷◌, map}
 use lib.ListN.{replicate}
 use Rattle.wire.specs.Hex.{hex}
 use Rattle.wire.specs.Texts.{ascii, request_label}
-use Rattle.wire.specs.Search.{first_place, any_passes, filtered, find}
+use Rattle.wire.specs.Search.{first_place, filtered, find}
 use Rattle.algorithms.specs.Table.{table, row_of}
 use Rattle.algorithms.specs.Sizes.{known_kem, known_kdf, known_aead, enc_length, public_key_length, key_length}
 use Rattle.keylist.specs.Layout.{parse, parse_from, fault_of, is_skipped, configuration_at, pairs_at}
@@ -41,7 +41,7 @@ after : gateway_after edge_list 2 answered_in_reverse ≡ final (gateway_does En
 after = ap (λ (g : Gateway). final (gateway_does Engine.Fast) g answered_in_reverse) fresh
 
 pub gateway_edges : GatewayEdges
-unfolding ascii request_label first_place any_passes table row_of known_kem known_kdf known_aead enc_length key_length hex left_in refusal_by keys_of stored_keys admit_refusal place_by filtered gateway_does number trace final tickets_of tickets_given step_number find retire_refusal with_key
+unfolding ascii request_label first_place table row_of known_kem known_kdf known_aead enc_length key_length hex left_in refusal_by keys_of stored_keys admit_refusal place_by filtered gateway_does number trace final tickets_of tickets_given step_number find retire_refusal with_key
 gateway_edges =
     record {
       lists = list_edges;
@@ -66,5 +66,5 @@ gateway_edges =
     }
 
 pub moved_example : MovedExample
-unfolding ascii request_label first_place any_passes table row_of known_kem known_kdf known_aead enc_length public_key_length key_length parse parse_from fault_of is_skipped configuration_at pairs_at hex edge_list left_in refusal_by keys_of stored_keys admit_refusal place_by filtered gateway_does number trace final tickets_of tickets_given book_does replaced with_own_calls step_number find retire_refusal with_key
+unfolding ascii request_label first_place table row_of known_kem known_kdf known_aead enc_length public_key_length key_length parse parse_from fault_of is_skipped configuration_at pairs_at hex edge_list left_in refusal_by keys_of stored_keys admit_refusal place_by filtered gateway_does number trace final tickets_of tickets_given book_does replaced with_own_calls step_number find retire_refusal with_key
 moved_example = record { order = refl; same_answers = refl }

@@ -11,7 +11,7 @@ use native.Mathlib.Omega.{arith}
 use borrow.Author.Tests.{eqb-true, eqb-false, eq-eqb}
 use lib.Dec.{eqb}
 use lib.ListN.{length}
-use Rattle.wire.specs.Search.{any_passes, filtered}
+use Rattle.wire.specs.Search.{filtered}
 use Rattle.wire.proofs.Booleans.{either, true_or_false}
 use Rattle.request.specs.Request.{fields_of}
 use Rattle.exchange.specs.Exchange.{is_free, exchange_of, asked}
@@ -50,7 +50,7 @@ module _ (all : List Event) (c : Book) where
 
     -- it is not a call on a ticket of whose calls none are left
     on_pending : (t : ℕ) (step : Step) → its_calls (t ∷ []) (told (on_ticket t step) ∷ events) ≡ [] → ⊥
-    unfolding filtered any_passes
+    unfolding filtered
     on_pending t step e = let none = rw (eq-eqb t t refl) at e in let z : ◌≡◌ {A = ℕ} 0 1 = cc in omega arith
 
     -- a key retirement has no calls of its own

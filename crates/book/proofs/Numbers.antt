@@ -6,10 +6,11 @@ use Prim.Native.Nat.{ℕ, zero, suc}
 use mathlib.Core.Bool.{Bool}
 use lib.Dec.{leb}
 use lib.ListN.{length}
+use Rattle.wire.specs.Refusals.{result_by}
 use Rattle.exchange.specs.declared.Exchange.{Exchange}
 use Rattle.exchange.specs.Steps.{Step, refusal, answer}
 use Rattle.exchange.proofs.Steps as steps
-use Rattle.gateway.specs.Registry.{table_size, admit_answer, retire_answer}
+use Rattle.gateway.specs.Registry.{table_size, admit_answer}
 use Rattle.book.specs.Book.{Book}
 use Rattle.gateway.specs.Calls.{of_admit, of_retire, of_step, number}
 
@@ -18,7 +19,7 @@ unfolding number
 admit-number zero ticket request = refl
 admit-number (suc n) ticket request = refl
 
-pub retire-number : (n : ℕ) → number (of_retire (retire_answer n)) ≡ n
+pub retire-number : (n : ℕ) → number (of_retire (result_by n tt)) ≡ n
 unfolding number
 retire-number zero = refl
 retire-number (suc n) = refl

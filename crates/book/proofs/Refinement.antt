@@ -1,5 +1,6 @@
 -- The refinement: with no call struck or moved, gateway and book give the same answers and bytes, and end alike, by whatever engines.
 -- Assumes nothing.
+use Rattle.std.specs.Prelude.{Result, Ok, Err}
 use Prim.Native.Nat.{ℕ}
 use mathlib.Core.Bool.{true}
 use mathlib.Core.Path.{◌≡◌, refl}
@@ -7,7 +8,8 @@ use mathlib.Core.List.Permᴰ
 use mathlib.Core.List.{List, [], ◌∷◌, ◌++◌, map}
 use Rattle.wire.specs.Search.{filtered}
 use Rattle.wire.proofs.Booleans.{either}
-use Rattle.keylist.specs.Layout.{Configuration, good, bad, parse, Result}
+use Rattle.wire.specs.declared.refusal.Refusal.{Refusal}
+use Rattle.keylist.specs.Layout.{Configuration, parse}
 use Rattle.keys.specs.declared.Keys.{Keys}
 use Rattle.keys.specs.Stored.{stored_keys}
 use Rattle.keys.specs.Helpers.{keys_from}
@@ -36,7 +38,7 @@ empty_alike cap keys registry s e = record { sound = s; registry = e; places = r
 refused_alike : Alike (empty_gateway 1 (stored_keys [])) (record { registry = record { cap = 1; last_ticket = 0; keys = [] }; pending = [] })
 refused_alike = empty_alike 1 (stored_keys []) (record { cap = 1; last_ticket = 0; keys = [] }) refused_sound (rw (stored_view []))
 
-ready_alike : (list : List ℕ) (cap : ℕ) (cs : List Configuration) → parse list ≡ good cs → cap_holds cap ≡ true
+ready_alike : (list : List ℕ) (cap : ℕ) (cs : List Configuration) → parse list ≡ Ok cs → cap_holds cap ≡ true
     → Alike (empty_gateway cap (stored_keys cs))
     (record { registry = record { cap = cap; last_ticket = 0; keys = map fresh_key cs }; pending = [] })
 unfolding keys_from
@@ -48,10 +50,10 @@ ready_alike list cap cs e h =
 pub fresh_alike : (list : List ℕ) (cap : ℕ) → Alike (fresh_gateway list cap) (fresh_book list cap)
 fresh_alike list cap = fresh (parse list) refl
   where
-    fresh : (o : Result (List Configuration)) → parse list ≡ o
+    fresh : (o : Result (List Configuration) Refusal) → parse list ≡ o
         → Alike (gateway_from cap (with_cap cap o)) (record { registry = registry_from cap (with_cap cap o); pending = [] })
-    fresh (good cs) e = either (cap_holds cap) (λ h. rw h (ready_alike list cap cs e h)) (λ h. rw h refused_alike)
-    fresh (bad r) e = refused_alike
+    fresh (Ok cs) e = either (cap_holds cap) (λ h. rw h (ready_alike list cap cs e h)) (λ h. rw h refused_alike)
+    fresh (Err r) e = refused_alike
 
 -- along a history
 module _ (choice : Gateway → Call → Engine) where

@@ -1,5 +1,6 @@
 -- A refused call changes neither the gateway nor the buffer that it lends; a refused setup hands back a gateway without keys.
 -- Assumes nothing.
+use Rattle.std.specs.Prelude.{Result, Ok, Err}
 use mathlib.Core.Path.{◌≡◌, refl, sym, ◌∙◌}
 use mathlib.Core.List.{List, []}
 use Prim.Native.Nat.{ℕ, zero, suc}
@@ -8,7 +9,7 @@ use lib.ListN.{replicate}
 use Rattle.wire.specs.Search.{filtered}
 use Rattle.wire.proofs.Numbers.{unless-refused}
 use Rattle.wire.specs.declared.refusal.Refusal.{Refusal}
-use Rattle.keylist.specs.Layout.{Configuration, Result, good, bad}
+use Rattle.keylist.specs.Layout.{Configuration}
 use Rattle.exchange.specs.Exchange.{free}
 use Rattle.keys.proofs.Views.{stored_view}
 use Rattle.gateway.specs.declared.Gateway.{Gateway}
@@ -46,10 +47,10 @@ none-pending zero = refl
 none-pending (suc n) = none-pending n
 
 -- a refused setup
-refused-setup : (cap : ℕ) (read : Result (List Configuration)) (r : Refusal) → read ≡ bad r
+refused-setup : (cap : ℕ) (read : Result (List Configuration) Refusal) (r : Refusal) → read ≡ Err r
     → (registry_of (gateway_from cap read) ≡ record { cap = 1; last_ticket = 0; keys = [] }) × (pending_in (gateway_from cap read).table ≡ [])
-refused-setup cap (good cs) r e = absurd (let z : ◌≡◌ {A = ℕ} 0 1 = cc e in omega arith)
-refused-setup cap (bad s) r e = (rw (stored_view []), none-pending table_size)
+refused-setup cap (Ok cs) r e = absurd (let z : ◌≡◌ {A = ℕ} 0 1 = cc e in omega arith)
+refused-setup cap (Err s) r e = (rw (stored_view []), none-pending table_size)
 
 pub refusal_changes_nothing : RefusalChangesNothing
 refusal_changes_nothing = record { of_call = refused_call; of_setup = λ list cap r e. refused-setup cap (setup list cap) r e }

@@ -9,7 +9,7 @@ use borrow.Author.Tests.{eqb-true, eqb-false, eq-eqb}
 use lib.Dec.{eqb, leb, ltb}
 use lib.ListN.{length}
 use Rattle.wire.specs.Tests.{pick}
-use Rattle.wire.specs.Search.{first_place, any_passes, among, is_none, find, is_some_and}
+use Rattle.wire.specs.Search.{first_place, among, is_none, find, is_some_and}
 use Rattle.wire.specs.Refusals.{◌when◌otherwise◌, unless_refused}
 use Rattle.wire.proofs.Booleans.{either, true_or_false}
 use Rattle.wire.proofs.Numbers.{not-refused}
@@ -89,7 +89,6 @@ up_to_seven = 2 ∷ 1 ∷ 3 ∷ 4 ∷ 5 ∷ 6 ∷ 7 ∷ []
 up-to-seven : (a b c d e f g retired : Bool) (rest : ℕ) → retired ≡ true
     → among up_to_seven (2 when a otherwise 1 when b otherwise 3 when c otherwise 1 when d otherwise 4 when e otherwise
     5 when f otherwise 6 when g otherwise 7 when retired otherwise rest) ≡ true
-unfolding any_passes
 up-to-seven true b c d e f g retired rest h = refl
 up-to-seven false true c d e f g retired rest h = refl
 up-to-seven false false true d e f g retired rest h = refl

@@ -1,10 +1,9 @@
 -- Skipping a configuration changes nothing else: the statements of specs/Skipping.
 -- Assumes nothing.
+use Rattle.std.specs.Prelude.{Option, Some, None, Ok, option_map}
 use mathlib.Core.Path.{◌≡◌, refl, sym, ap, ◌∙◌}
 use mathlib.Core.Bool.{true, false}
 use mathlib.Core.List.{List, [], ◌∷◌, ◌++◌, map, flat_map, append_assoc, append-nil}
-use mathlib.Core.Option
-use mathlib.Core.Option.{Option, none, some}
 use Prim.Native.Nat.{ℕ, zero, suc, ◌+◌, ◌-◌, ◌%◌, ◌≤◌, ◌<◌, min}
 use native.Mathlib.Nat.{div-add-mod'}
 use native.Mathlib.Omega.{arith}
@@ -12,9 +11,9 @@ use borrow.Author.Tests.{eq-eqb, eqb-true, eqb-false, le-leb, lt-leb, leb-false,
 use lib.Dec.{eqb, leb}
 use lib.ListN.{length, take, drop, length-append, length-drop, length-map, take-append-drop}
 use lib.Seq.{drop-append-add, drop-append-le, drop-append_seam, drop_at, drop-drop, length-take-le}
-use Rattle.wire.specs.Search.{among, any_passes, find}
+use Rattle.wire.specs.Search.{among}
 use Rattle.wire.proofs.Booleans.{either, true_or_false}
-use Rattle.keylist.specs.Layout.{Configuration, configuration_at, followed_by, good, is_skipped, length_at, most_configurations, next_start, parse, parse_from}
+use Rattle.keylist.specs.Layout.{Configuration, configuration_at, followed_by, is_skipped, length_at, most_configurations, next_start, parse, parse_from}
 use Rattle.keylist.specs.Answers.{configuration_with, key_part, key_place_in, starts_from}
 use Rattle.keylist.proofs.LayoutLaws.{held_not_skipped, skipped}
 use Rattle.keylist.proofs.Parsing.{by_reading, holding, parse_end, parse_more, parse_skip, parse_some, skips_from, skips_end, skips_none, skips_one}
@@ -66,7 +65,6 @@ module _ (bytes : List ℕ) where
   starts_more more at h = rw (lt-leb (length bytes) at h)
 
   at-end : (place : ℕ) → among (length bytes ∷ []) place ≡ true → length bytes ≡ place
-  unfolding any_passes
   at-end place e = either (eqb (length bytes) place) (eqb-true (length bytes) place) (λ h. absurd (true_or_false (rw h at e) refl))
 
   -- where so many are enough for a configuration and those behind it, one less is for those behind it
@@ -81,7 +79,7 @@ module _ (bytes : List ℕ) where
 
   -- such a place lies in the list, and not in front of the offset
   between_inside : (more at place : ℕ) → Between more at place → (min at (length bytes) ≤ place) × (place ≤ length bytes)
-  unfolding any_passes starts_from
+  unfolding starts_from
   between_inside zero at place e = let is = at-end place e in (omega (arith, is), omega (arith, is))
   between_inside (suc more) at place e =
       either (leb (length bytes) at)
@@ -95,24 +93,23 @@ module _ (bytes : List ℕ) where
   -- a place that is not at the offset, where a configuration starts that lies in the list, is one behind that configuration
   between_next : (more at place : ℕ) → at ≤ place → eqb at place ≡ false → next_start bytes at ≤ length bytes → Between (suc more) at place
       → (at < place) × (next_start bytes at ≤ place) × Between more (next_start bytes at) place
-  unfolding any_passes
   between_next more at place h i whole e =
       let later : Between more (next_start bytes at) place = rw (starts_more more at (omega arith), i) at e in
       (omega (arith, eqb-false at place i), omega (arith, between_inside more (next_start bytes at) place later), later)
 
   -- a good list is read with as many as it has
-  enough : (more : ℕ) (taken : List ℕ) (at : ℕ) (cs : List Configuration) → parse_from more taken bytes at ≡ good cs
-      → (n : ℕ) → length (starts_from more bytes at) ≤ n → (parse_from n taken bytes at ≡ good cs) × (starts_from n bytes at ≡ starts_from more bytes at)
+  enough : (more : ℕ) (taken : List ℕ) (at : ℕ) (cs : List Configuration) → parse_from more taken bytes at ≡ Ok cs
+      → (n : ℕ) → length (starts_from more bytes at) ≤ n → (parse_from n taken bytes at ≡ Ok cs) × (starts_from n bytes at ≡ starts_from more bytes at)
   enough =
       by_reading bytes
       (λ more taken at cs. (n : ℕ) → length (starts_from more bytes at) ≤ n
-      → (parse_from n taken bytes at ≡ good cs) × (starts_from n bytes at ≡ starts_from more bytes at))
+      → (parse_from n taken bytes at ≡ Ok cs) × (starts_from n bytes at ≡ starts_from more bytes at))
       (λ more taken at h n few. (parse_end n taken bytes at h, starts_end n at h ∙ sym (starts_end more at h)))
       (λ more taken at cs k parsed of n few.
-      one_less more at (omega (arith, (skipped bytes at k).whole)) n few (λ m. parse_from m taken bytes at ≡ good cs)
+      one_less more at (omega (arith, (skipped bytes at k).whole)) n few (λ m. parse_from m taken bytes at ≡ Ok cs)
       (λ m less. let on = of m less in (parse_skip m taken bytes at k ∙ on.0, on.1)))
       (λ more taken at cs g parsed of n few.
-      one_less more at (omega (arith, (holding bytes taken at g).whole)) n few (λ m. parse_from m taken bytes at ≡ good (configuration_at bytes at ∷ cs))
+      one_less more at (omega (arith, (holding bytes taken at g).whole)) n few (λ m. parse_from m taken bytes at ≡ Ok (configuration_at bytes at ∷ cs))
       (λ m less. let on = of m less in (parse_more m taken bytes at g ∙ ap (followed_by (configuration_at bytes at)) on.0, on.1)))
 
 -- The longer list: in front of the place its bytes stand where they stood, behind it further on.
@@ -189,9 +186,9 @@ module _ (bytes extra : List ℕ) (place : ℕ) (there : place ≤ length bytes)
 
   -- how the longer list is read from an offset on, and how many are skipped
   abbrev ReadFrom : ℕ → List ℕ → ℕ → List Configuration → ℕ → Type 0
-  ReadFrom more taken at cs skips = (parse_from more taken longer at ≡ good (map moved cs)) × (skips_from more longer at ≡ skips)
+  ReadFrom more taken at cs skips = (parse_from more taken longer at ≡ Ok (map moved cs)) × (skips_from more longer at ≡ skips)
 
-  read_behind : (more : ℕ) (taken : List ℕ) (at : ℕ) (cs : List Configuration) → parse_from more taken bytes at ≡ good cs → place ≤ at
+  read_behind : (more : ℕ) (taken : List ℕ) (at : ℕ) (cs : List Configuration) → parse_from more taken bytes at ≡ Ok cs → place ≤ at
       → ReadFrom more taken (at + size) cs (skips_from more bytes at)
   unfolding configuration_at
   read_behind =
@@ -215,7 +212,7 @@ module _ (bytes extra : List ℕ) (place : ℕ) (there : place ≤ length bytes)
 
   module _ (one : OneSkipped extra) where
     -- at the place the extra configuration is skipped
-    read_extra : (more : ℕ) (taken : List ℕ) (cs : List Configuration) → parse_from more taken bytes place ≡ good cs
+    read_extra : (more : ℕ) (taken : List ℕ) (cs : List Configuration) → parse_from more taken bytes place ≡ Ok cs
         → ReadFrom (suc more) taken place cs (suc (skips_from more bytes place))
     read_extra more taken cs parsed =
         let s = standing_extra one in
@@ -223,11 +220,11 @@ module _ (bytes extra : List ℕ) (place : ℕ) (there : place ≤ length bytes)
         let on = read_behind more taken place cs parsed (omega arith) in
         (step.0 ∙ on.0, step.1 ∙ ap suc on.1)
 
-    at_place : (more : ℕ) (taken : List ℕ) (at : ℕ) (cs : List Configuration) → at ≡ place → parse_from more taken bytes at ≡ good cs
+    at_place : (more : ℕ) (taken : List ℕ) (at : ℕ) (cs : List Configuration) → at ≡ place → parse_from more taken bytes at ≡ Ok cs
         → ReadFrom (suc more) taken at cs (suc (skips_from more bytes at))
     at_place more taken at cs here parsed = rw here (read_extra more taken cs (rw here at parsed))
 
-    read_front : (more : ℕ) (taken : List ℕ) (at : ℕ) (cs : List Configuration) → parse_from more taken bytes at ≡ good cs → at ≤ place
+    read_front : (more : ℕ) (taken : List ℕ) (at : ℕ) (cs : List Configuration) → parse_from more taken bytes at ≡ Ok cs → at ≤ place
         → Between bytes more at place → ReadFrom (suc more) taken at cs (suc (skips_from more bytes at))
     unfolding configuration_at
     read_front =
@@ -260,9 +257,9 @@ module _ (bytes extra : List ℕ) (place : ℕ) (there : place ≤ length bytes)
         )))
 
     -- the whole of it
-    read_longer : (cs : List Configuration) → parse bytes ≡ good cs → length (starts_from most_configurations bytes 0) < most_configurations
+    read_longer : (cs : List Configuration) → parse bytes ≡ Ok cs → length (starts_from most_configurations bytes 0) < most_configurations
         → Between bytes most_configurations 0 place
-        → (parse longer ≡ good (map moved cs)) × (skips_from most_configurations longer 0 ≡ skips_from most_configurations bytes 0 + 1)
+        → (parse longer ≡ Ok (map moved cs)) × (skips_from most_configurations longer 0 ≡ skips_from most_configurations bytes 0 + 1)
     read_longer cs parsed few between =
         let (less, same) = enough bytes most_configurations [] 0 cs (parse_all bytes cs parsed) 15 (omega arith) in
         let on = read_front 15 [] 0 cs less (omega arith) (rw same between) in (
@@ -277,20 +274,19 @@ module _ (place size : ℕ) where
   stored_moved (c ∷ cs) = ap (λ keys. stored_key c ∷ keys) (stored_moved cs)
 
   with_id_moved : (id : ℕ) (cs : List Configuration)
-      → configuration_with id (map (moved_behind place size) cs) ≡ Option.map (moved_behind place size) (configuration_with id cs)
-  unfolding find
+      → configuration_with id (map (moved_behind place size) cs) ≡ option_map (moved_behind place size) (configuration_with id cs)
   with_id_moved id [] = refl
   with_id_moved id (c ∷ cs) = either (eqb c.key_id id) (λ i. rw i refl) (λ i. rw i (with_id_moved id cs))
 
   -- the key reader of two lists whose configurations differ in their offsets
-  module _ (bytes longer : List ℕ) (cs : List Configuration) (read : parse bytes ≡ good cs)
-      (read_longer : parse longer ≡ good (map (moved_behind place size) cs)) (id : ℕ) where
+  module _ (bytes longer : List ℕ) (cs : List Configuration) (read : parse bytes ≡ Ok cs)
+      (read_longer : parse longer ≡ Ok (map (moved_behind place size) cs)) (id : ℕ) where
     keys_alike : (o : Option Configuration) → configuration_with id cs ≡ o
         → (key_part longer (key_place_in id (parse longer)) ≡ key_part bytes (key_place_in id (parse bytes)))
         × (key_place_aside (key_place_in id (parse longer)) ≡ key_place_aside (key_place_in id (parse bytes)))
-    keys_alike none e = rw (read, read_longer, with_id_moved id cs, e) (refl, refl)
-    keys_alike (some c) e =
-        let there : configuration_with id (map (moved_behind place size) cs) ≡ some (moved_behind place size c) = rw (with_id_moved id cs, e) refl in (
+    keys_alike None e = rw (read, read_longer, with_id_moved id cs, e) (refl, refl)
+    keys_alike (Some c) e =
+        let there : configuration_with id (map (moved_behind place size) cs) ≡ Some (moved_behind place size c) = rw (with_id_moved id cs, e) refl in (
           (public_key_exactly longer id (map (moved_behind place size) cs) (moved_behind place size c) read_longer there).0
               ∙ sym (public_key_exactly bytes id cs c read e).0,
           rw (read, read_longer, with_id_moved id cs, e) refl,
@@ -336,7 +332,7 @@ unknown_kem_refused engine g request info unknown long_enough not_too_long =
 -- A list of skipped configurations, from an offset on at which the rest of them stand.
 module _ (bytes : List ℕ) where
   none_read : (all : List UnknownKem) (more : ℕ) (taken : List ℕ) (at : ℕ) → length all ≤ more → at ≤ length bytes
-      → drop at bytes ≡ flat_map bytes_of all → (parse_from more taken bytes at ≡ good []) × (skips_from more bytes at ≡ length all)
+      → drop at bytes ≡ flat_map bytes_of all → (parse_from more taken bytes at ≡ Ok []) × (skips_from more bytes at ≡ length all)
   unfolding flat_map
   none_read [] more taken at few inside there =
       let end : length bytes ≤ at = omega (arith, rw length-drop at (ap length there)) in
@@ -362,13 +358,13 @@ module _ (bytes : List ℕ) where
       (step.0 ∙ on.0, step.1 ∙ ap suc on.1)
 
 pub all_skipped : AllSkipped
-unfolding flat_map stored_keys keys_of find
+unfolding flat_map stored_keys keys_of
 all_skipped [] there few = absurd (omega arith)
 all_skipped (c ∷ rest) there few =
     let bytes = flat_map bytes_of (c ∷ rest) in
     let (from_0, skips) = none_read bytes (c ∷ rest) most_configurations [] 0 few (omega arith) refl in
     let size : length bytes ≡ length (bytes_of c) + length (flat_map bytes_of rest) = length-append (bytes_of c) (flat_map bytes_of rest) in
-    let read : parse bytes ≡ good [] = parse_some bytes (omega (arith, size)) ∙ from_0 in
+    let read : parse bytes ≡ Ok [] = parse_some bytes (omega (arith, size)) ∙ from_0 in
     record {
       check = rw (read, skips) refl;
       answer = λ cap h. rw (read, h) refl;

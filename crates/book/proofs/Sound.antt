@@ -1,5 +1,6 @@
 -- What every call keeps of the book.
 -- Assumes nothing.
+use Rattle.std.specs.Prelude.{Ok}
 use Prim.Native.Nat.{ℕ, ◌+◌, ◌≤◌, ◌<◌}
 use mathlib.Core.Bool.{true}
 use mathlib.Core.Path.{◌≡◌, refl, sym, ◌∙◌}
@@ -9,7 +10,7 @@ use borrow.Author.Tests.{eqb-true, eqb-false, leb-true}
 use lib.Dec.{eqb, leb}
 use lib.ListN.{length, length-set, length-map}
 use Rattle.wire.proofs.Booleans.{either, and_left, and_right}
-use Rattle.keylist.specs.Layout.{Configuration, most_configurations, good, parse}
+use Rattle.keylist.specs.Layout.{Configuration, most_configurations, parse}
 use Rattle.request.specs.Request.{key_id_of, fields_of}
 use Rattle.exchange.specs.Exchange.{exchange_of, asked}
 use Rattle.exchange.specs.Steps.{Step, next, leaves}
@@ -133,7 +134,7 @@ refused_sound =
       given = λ ticket later. refl;
     }
 
-pub ready_sound : (list : List ℕ) (cap : ℕ) (cs : List Configuration) → parse list ≡ good cs → cap_holds cap ≡ true
+pub ready_sound : (list : List ℕ) (cap : ℕ) (cs : List Configuration) → parse list ≡ Ok cs → cap_holds cap ≡ true
     → Sound (record { registry = record { cap = cap; last_ticket = 0; keys = map fresh_key cs }; pending = [] })
 unfolding passing
 ready_sound list cap cs e h =

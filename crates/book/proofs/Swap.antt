@@ -18,9 +18,8 @@ use Rattle.exchange.specs.Steps.{Step, next}
 use Rattle.keys.specs.Helpers.{key_refusal}
 use Rattle.keys.specs.Stored.{place_of_key}
 use Rattle.gateway.specs.Registry.{Registry, admit_refusal, table_size}
-use Rattle.gateway.specs.Helpers.{◌or_else◌}
 use Rattle.gateway.specs.Calls.{Call, admit, retire, on_ticket, reporting}
-use Rattle.gateway.proofs.Deciding.{admit_order}
+use Rattle.gateway.proofs.Deciding.{◌or_else◌, admit_order}
 use Rattle.book.specs.Book.{Book, replaced}
 use Rattle.book.specs.History.{event}
 use Rattle.book.specs.Demand3.{is_on}

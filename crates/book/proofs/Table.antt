@@ -11,7 +11,7 @@ use borrow.Author.Tests.{lt-leb, eqb-true, ne_eqb}
 use lib.Dec.{eqb, leb, leb-suc-suc}
 use lib.ListN.{length, get_or, set}
 use Rattle.wire.specs.Tests.{pick}
-use Rattle.wire.specs.Search.{first_place, any_passes, filtered}
+use Rattle.wire.specs.Search.{first_place, filtered}
 use Rattle.wire.proofs.Booleans.{either, true_or_false, and_right, and_false}
 use Rattle.exchange.specs.declared.Exchange.{Exchange}
 use Rattle.exchange.specs.Exchange.{free, is_free, has_ticket, exchange_of}
@@ -178,7 +178,7 @@ pending_length (e ∷ es) =
 
 -- no place is free where there are as many pending exchanges as places
 pub full_alike : (table : List Exchange) → is_full table ≡ leb (length table) (length (pending_in table))
-unfolding filtered any_passes
+unfolding filtered
 full_alike [] = refl
 full_alike (e ∷ es) =
     either (is_free e)

@@ -1,10 +1,8 @@
 -- Client and gateway agree: the gateway reads what head wrote, and the client's split gives back what a response was made of.
-use Rattle.std.specs.Prelude.{ℕ, ◌+◌, ◌-◌, ◌≤◌, ◌≡◌, List, ◌++◌, length, take}
+use Rattle.std.specs.Prelude.{ℕ, ◌+◌, ◌-◌, ◌≤◌, ◌≡◌, List, ◌++◌, length, take, Ok}
 use Rattle.wire.specs.Bytes.{part}
 use Rattle.wire.specs.Texts.{info_length, longest_request}
 use Rattle.algorithms.specs.Sizes.{tag_length}
-use Rattle.client.specs.declared.head.HeadAnswer.{HeadAnswer}
-use Rattle.client.specs.declared.split.Parts.{Parts}
 use Rattle.client.specs.Head.{HeadDone, head_does}
 use Rattle.client.specs.Split.{split_answer, nonce_part, ciphertext_part}
 use Rattle.request.specs.Request.{key_id_of, kem_of, kdf_of, aead_of, fields_of, info_of}
@@ -45,7 +43,7 @@ abbrev pub RequestsAgree : Type 0
 RequestsAgree =
     (key_id kem kdf aead size : ℕ) (enc head info ciphertext : List ℕ)
     → let done = head_does key_id kem kdf aead enc head info in
-    done.answer ≡ HeadAnswer.Length size → tag_length ≤ length ciphertext → size + length ciphertext ≤ longest_request
+    done.answer ≡ Ok size → tag_length ≤ length ciphertext → size + length ciphertext ≤ longest_request
     → Reads (request_of done size ciphertext) key_id kem kdf aead enc ciphertext (take info_length done.info)
 
 -- the response that the gateway's host sends: the nonce, then the ciphertext
@@ -54,7 +52,7 @@ response_of nonce ciphertext = nonce ++ ciphertext
 
 -- what the client's split gives of a response
 pub record Splits (response : List ℕ) (aead : ℕ) (nonce ciphertext : List ℕ) : Type 0 where
-  pub nonce_end : split_answer aead (length response) ≡ Parts.NonceEnd (length nonce)
+  pub nonce_end : split_answer aead (length response) ≡ Ok (length nonce)
   pub same_nonce : nonce_part response (split_answer aead (length response)) ≡ nonce
   pub same_ciphertext : ciphertext_part response (split_answer aead (length response)) ≡ ciphertext
 
@@ -65,5 +63,5 @@ ResponsesAgree =
     (e : Exchange) (plain : ℕ) (enc nonce salt ciphertext : List ℕ)
     → refusal (respond enc nonce plain salt) e ≡ 0 → length ciphertext ≡ plain + tag_length
     → let response = response_of nonce ciphertext in
-    (answer (respond enc nonce plain salt) e ≡ StepAnswer.Sealed (record { status = 200; length = length response }))
+    (answer (respond enc nonce plain salt) e ≡ Ok (StepAnswer.Sealed (record { status = 200; length = length response })))
     × Splits response e.aead nonce ciphertext

@@ -1,13 +1,13 @@
 -- 01, "The list and the book of demand 3": the book, fed with setup's key list and cap, the calls and their arguments only.
 use Rattle.std.specs.Prelude.{ℕ, ◌+◌, List, [], ◌∷◌, ◌++◌, leb, length}
 use Rattle.wire.specs.Tests.{pick}
-use Rattle.wire.specs.Refusals.{unless_refused, written}
+use Rattle.wire.specs.Refusals.{result_by, unless_refused, written}
 use Rattle.exchange.specs.declared.Exchange.{Exchange}
 use Rattle.request.specs.Request.{key_id_of, fields_of, info_of}
 use Rattle.exchange.specs.Exchange.{is_free, has_ticket, exchange_of, asked}
 use Rattle.exchange.specs.Steps.{Step, refusal, next, answer, buffer}
 use Rattle.keys.specs.Keys.{key_with, retire_refusal, with_use, with_retirement, with_key}
-use Rattle.gateway.specs.Registry.{Registry, fresh_registry, admit_refusal, admit_answer, retire_answer, report, table_size}
+use Rattle.gateway.specs.Registry.{Registry, fresh_registry, admit_refusal, admit_answer, report, table_size}
 use Rattle.gateway.specs.Calls.{Call, admit, retire, on_ticket, reporting, of_admit, of_retire, of_step, of_report, Done}
 
 -- cap, last ticket and keys, and the set of pending exchanges, which is kept in the order of their admission
@@ -73,7 +73,7 @@ book_does b (admit request info) =
     }
 book_does b (retire id) =
     record {
-      answer = of_retire (retire_answer (book_retire_number id b));
+      answer = of_retire (result_by (book_retire_number id b) tt);
       buffer = [];
       state = unless_refused (book_retire_number id b) (book_retired id b) b;
     }

@@ -1,7 +1,8 @@
 -- Demand 2, "A key's count is the number of admissions it was given", over every list of calls; and the tickets.
+use Rattle.std.specs.List.{list_any}
 use Rattle.std.specs.Prelude.{ℕ, zero, suc, ◌+◌, ◌*◌, ◌≤◌, Bool, false, ◌≡◌, List, [], ◌∷◌, ◌++◌, map, eqb, ltb, length}
 use Rattle.wire.specs.Tests.{◌and◌}
-use Rattle.wire.specs.Search.{any_passes, filtered}
+use Rattle.wire.specs.Search.{filtered}
 use Rattle.keylist.specs.Layout.{most_configurations}
 use Rattle.request.specs.Request.{key_id_of}
 use Rattle.keys.specs.Keys.{Key}
@@ -41,7 +42,7 @@ pub record Counts (registry : Registry) (events : List Event) : Type 0 where
   -- each key's count, in list order
   pub admissions : map (λ (key : Key). key.count) registry.keys ≡ map (λ (key : Key). admissions_of_key key.id events) registry.keys
   -- "The count of a key lies between 0 and the cap."
-  pub within_cap : any_passes (λ key. ltb registry.cap key.count) registry.keys ≡ false
+  pub within_cap : list_any (λ key. ltb registry.cap key.count) registry.keys ≡ false
   pub cap_bound : (1 ≤ registry.cap) × (registry.cap ≤ most_uses)
   -- "the last one equals the sum of all use counts, so is at most 16,000,000,000"
   pub last_ticket : registry.last_ticket ≡ sum_of_counts registry.keys

@@ -1,5 +1,5 @@
 -- 01, "Edges": the starred ones, with those of key lists (keylist's `ListEdges`) one computed statement about the definitions.
-use Rattle.std.specs.Prelude.{ℕ, true, false, ◌≡◌, List, [], ◌∷◌, ◌++◌, map, replicate}
+use Rattle.std.specs.Prelude.{ℕ, true, false, ◌≡◌, List, [], ◌∷◌, ◌++◌, map, replicate, Ok}
 use Rattle.wire.specs.Hex.{hex}
 use Rattle.wire.specs.Texts.{head_bytes}
 use Rattle.keylist.specs.Edges.{edge_list, ListEdges}
@@ -7,7 +7,6 @@ use Rattle.exchange.specs.declared.Exchange.{Exchange}
 use Rattle.exchange.specs.Exchange.{asked_phase, opened_phase}
 use Rattle.exchange.specs.Steps.{open_result, respond, abandon}
 use Rattle.keys.specs.Keys.{Key}
-use Rattle.gateway.specs.declared.AdmitAnswer.{AdmitAnswer}
 use Rattle.gateway.specs.Registry.{status_of, is_key_problem}
 use Rattle.gateway.specs.View.{registry_of, pending_in}
 use Rattle.gateway.specs.Calls.{Call, admit, retire, on_ticket, reporting, number, of_admit}
@@ -65,7 +64,7 @@ pub record GatewayEdges : Type 0 where
       ≡ record {
         call = asking good_request;
         answer =
-            of_admit (AdmitAnswer.Admitted (record {
+            of_admit (Ok (record {
               ticket = record { 0 = 1 };
               key_id = record { 0 = 7 };
               kdf = 1;

@@ -1,7 +1,6 @@
 -- Lists of calls, each of which gets the state that the one before returned: what each gave, and the state at the end.
-use Rattle.std.specs.Prelude.{ℕ, Bool, ◌≡◌, List, [], ◌∷◌, eqb}
+use Rattle.std.specs.Prelude.{ℕ, Bool, ◌≡◌, List, [], ◌∷◌, eqb, Ok, Err}
 use Rattle.gateway.specs.declared.Gateway.{Gateway}
-use Rattle.gateway.specs.declared.AdmitAnswer.{AdmitAnswer}
 use Rattle.gateway.specs.declared.table.Engine.{Engine}
 use Rattle.gateway.specs.Gateway.{fresh_gateway, gateway_does}
 use Rattle.gateway.specs.Calls.{Call, Answer, Done, number, of_admit, of_retire, of_step, of_report}
@@ -44,8 +43,8 @@ is_accepted e = eqb (number e.answer) 0
 
 -- the ticket that an answer gives; none where it is not that of an accepted admit
 unfoldable pub tickets_of : Answer → List ℕ
-tickets_of (of_admit (AdmitAnswer.Admitted a)) = a.ticket.0 ∷ []
-tickets_of (of_admit (AdmitAnswer.Refused r)) = []
+tickets_of (of_admit (Ok a)) = a.ticket.0 ∷ []
+tickets_of (of_admit (Err r)) = []
 tickets_of (of_retire r) = []
 tickets_of (of_step r) = []
 tickets_of (of_report r) = []

@@ -1,10 +1,9 @@
 -- What holds of one call: a refusal changes nothing, when an exchange is admitted, and what goes out unprotected.
-use Rattle.std.specs.Prelude.{ℕ, ◌≤◌, ◌<◌, ◌≡◌, ◌↔◌, true, false, List, [], ◌∷◌, ◌++◌, length}
+use Rattle.std.specs.Prelude.{ℕ, ◌≤◌, ◌<◌, ◌≡◌, ◌↔◌, true, false, List, [], ◌∷◌, ◌++◌, length, Err}
 use Rattle.wire.specs.Tests.{pick}
 use Rattle.wire.specs.Refusals.{unless_refused}
 use Rattle.wire.specs.declared.refusal.Refusal.{Refusal}
 use Rattle.wire.specs.Texts.{info_length, longest_request}
-use Rattle.keylist.specs.Layout.{bad}
 use Rattle.algorithms.specs.Sizes.{known_kem, known_kdf, known_aead, shortest_request}
 use Rattle.exchange.specs.declared.Exchange.{Exchange}
 use Rattle.request.specs.Request.{key_id_of, kem_of, kdf_of, aead_of}
@@ -32,7 +31,7 @@ lent reporting = []
 pub record RefusalChangesNothing : Type 0 where
   pub of_call : (engine : Engine) (g : Gateway) (call : Call) → (number (gateway_does engine g call).answer ≡ 0 → ⊥)
       → ((gateway_does engine g call).state ≡ g) × ((gateway_does engine g call).buffer ≡ lent call)
-  pub of_setup : (list : List ℕ) (cap : ℕ) (r : Refusal) → setup list cap ≡ bad r
+  pub of_setup : (list : List ℕ) (cap : ℕ) (r : Refusal) → setup list cap ≡ Err r
       → (registry_of (fresh_gateway list cap) ≡ record { cap = 1; last_ticket = 0; keys = [] }) × (pending_in (fresh_gateway list cap).table ≡ [])
 
 -- Demand 2: "An exchange is admitted exactly when its request is well formed, names a live key with its KEM and a known pair it

@@ -1,21 +1,22 @@
 -- 02, A1: skipping a configuration changes nothing else; a list in which all are skipped; and requests that name an unknown KEM.
-use Rattle.std.specs.Prelude.{ℕ, ◌+◌, ◌%◌, ◌≤◌, ◌<◌, ◌≡◌, Bool, true, false, ltb, length, take, drop}
+use Rattle.std.specs.Prelude.{ℕ, ◌+◌, ◌%◌, ◌≤◌, ◌<◌, ◌≡◌, Bool, true, false, ltb, length, take, drop, Result, Ok, Err}
 use mathlib.Core.List.{List, [], ◌∷◌, ◌++◌, map, flat_map}
 use Rattle.wire.specs.Tests.{pick}
 use Rattle.wire.specs.Bytes.{word_bytes}
 use Rattle.wire.specs.Search.{among}
 use Rattle.wire.specs.Refusals.{refused}
+use Rattle.wire.specs.declared.refusal.Refusal.{Refusal}
+use Rattle.wire.specs.declared.span.Span.{Span}
 use Rattle.wire.specs.Texts.{head_length, longest_request}
 use Rattle.algorithms.specs.Sizes.{known_kem}
-use Rattle.keylist.specs.declared.Checked.{Checked}
-use Rattle.keylist.specs.declared.KeyPlace.{KeyPlace}
-use Rattle.keylist.specs.Layout.{Configuration, good, most_configurations, parse}
-use Rattle.keylist.specs.Answers.{checked, key_part, key_place_in, skipped_in, starts}
-use Rattle.client.specs.declared.choose.Chosen.{Chosen}
+use Rattle.wire.specs.declared.refusal.Refusal.{Refusal}
+use Rattle.wire.specs.declared.span.Span.{Span}
+use Rattle.keylist.specs.Layout.{Configuration, most_configurations, parse}
+use Rattle.keylist.specs.Answers.{checked, counts, key_part, key_place_in, skipped_in, span, starts}
+use Rattle.client.specs.declared.choose.Choice.{Choice}
 use Rattle.client.specs.Choose.{choose_from}
 use Rattle.request.specs.Request.{kem_of}
 use Rattle.gateway.specs.declared.Gateway.{Gateway}
-use Rattle.gateway.specs.declared.SetupAnswer.{SetupAnswer}
 use Rattle.gateway.specs.declared.table.Engine.{Engine}
 use Rattle.gateway.specs.Registry.{cap_holds, setup, setup_answer}
 use Rattle.gateway.specs.Gateway.{fresh_gateway, gateway_does}
@@ -53,19 +54,18 @@ moved_behind place size c =
     }
 
 -- what the key reader's checking entry and choose answer, places aside
-abbrev pub key_place_aside : KeyPlace → KeyPlace
-key_place_aside (KeyPlace.Found from to) = KeyPlace.Found 0 0
-key_place_aside (KeyPlace.Refused r) = KeyPlace.Refused r
+abbrev pub key_place_aside : Result Span Refusal → Result Span Refusal
+key_place_aside (Ok key) = Ok (span 0 0)
+key_place_aside (Err r) = Err r
 
-abbrev pub choice_aside : Chosen → Chosen
-choice_aside (Chosen.Usable x) =
-    Chosen.Usable (record { key_id = x.key_id; kem = x.kem; kdf = x.kdf; aead = x.aead; key_start = 0; key_end = 0 })
-choice_aside (Chosen.Refused r) = Chosen.Refused r
+abbrev pub choice_aside : Result Choice Refusal → Result Choice Refusal
+choice_aside (Ok x) = Ok (record { key_id = x.key_id; kem = x.kem; pair = x.pair; key = span 0 0 })
+choice_aside (Err r) = Err r
 
 -- of a list that is read into these configurations, and of a longer one: the configurations are the same, with their offsets moved, one more
 -- is skipped, and setup, key reader and choose answer the same
 pub record ReadAlike (bytes longer : List ℕ) (place size : ℕ) (cs : List Configuration) : Type 0 where
-  pub configurations : parse longer ≡ good (map (moved_behind place size) cs)
+  pub configurations : parse longer ≡ Ok (map (moved_behind place size) cs)
   pub skipped : skipped_in longer ≡ skipped_in bytes + 1
   pub gateway : (cap : ℕ) → fresh_gateway longer cap ≡ fresh_gateway bytes cap
   pub answer : (cap : ℕ) → setup_answer (setup longer cap) ≡ setup_answer (setup bytes cap)
@@ -77,18 +77,18 @@ pub record ReadAlike (bytes longer : List ℕ) (place size : ℕ) (cs : List Con
 -- a configuration with an unknown KEM put into a good list at any place between configurations, with at most sixteen in all
 abbrev pub SkippingChangesNothingElse : Type 0
 SkippingChangesNothingElse =
-    (bytes : List ℕ) (extra : UnknownKem) (place : ℕ) (cs : List Configuration) → parse bytes ≡ good cs
+    (bytes : List ℕ) (extra : UnknownKem) (place : ℕ) (cs : List Configuration) → parse bytes ≡ Ok cs
     → length (starts bytes) < most_configurations → is_between place bytes ≡ true
     → ReadAlike bytes (put_in (bytes_of extra) place bytes) place (length (bytes_of extra)) cs
 
 -- "A list in which all are skipped sets up a gateway without keys", with the cap that was given; "choose answers 16", and the key reader 4
 pub record WithoutKeys (bytes : List ℕ) (skips : ℕ) : Type 0 where
-  pub check : checked bytes ≡ Checked.Good 0 skips
-  pub answer : (cap : ℕ) → cap_holds cap ≡ true → setup_answer (setup bytes cap) ≡ SetupAnswer.Ready 0
+  pub check : checked bytes ≡ Ok (counts 0 skips)
+  pub answer : (cap : ℕ) → cap_holds cap ≡ true → setup_answer (setup bytes cap) ≡ Ok 0
   pub gateway : (cap : ℕ) → cap_holds cap ≡ true
       → (registry_of (fresh_gateway bytes cap) ≡ record { cap = cap; last_ticket = 0; keys = [] }) × (pending_in (fresh_gateway bytes cap).table ≡ [])
-  pub choice : (kems numbers : List ℕ) → length numbers % 2 ≡ 0 → choose_from kems numbers (parse bytes) ≡ Chosen.Refused (refused 16)
-  pub key : (id : ℕ) → key_place_in id (parse bytes) ≡ KeyPlace.Refused (refused 4)
+  pub choice : (kems numbers : List ℕ) → length numbers % 2 ≡ 0 → choose_from kems numbers (parse bytes) ≡ Err (refused 16)
+  pub key : (id : ℕ) → key_place_in id (parse bytes) ≡ Err (refused 4)
 
 -- one or more, sixteen at most, one behind the other
 abbrev pub AllSkipped : Type 0

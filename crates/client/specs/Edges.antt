@@ -1,13 +1,13 @@
 -- Choose, head and split at their bounds, as one computed statement: the orders of 01, and the key configuration of RFC 9458,
 -- Appendix A, with its length in front.
-use Rattle.std.specs.Prelude.{List, [], ◌∷◌, map, ◌≡◌, ℕ, replicate}
+use Rattle.std.specs.Prelude.{List, [], ◌∷◌, map, ◌≡◌, ℕ, Ok, Err, replicate}
 use Rattle.wire.specs.Hex.{hex}
 use Rattle.wire.specs.Refusals.{refused, refused_at}
+use Rattle.keylist.specs.Answers.{span}
 use Rattle.keylist.specs.Layout.{parse}
 use Rattle.client.specs.Choose.{choose_from}
 use Rattle.client.specs.Head.{head_refusal}
 use Rattle.client.specs.Split.{split_refusal}
-use Rattle.client.specs.declared.choose.Chosen.{Chosen}
 
 -- key id 1, X25519, pairs (1, 1) and (1, 3)
 unfoldable pub appendix_list : List ℕ
@@ -18,13 +18,12 @@ pub record ClientEdges : Type 0 where
   -- the first pair of the list, in whatever order the client has them
   pub chosen :
       choose_from (0x0020 ∷ []) (1 ∷ 3 ∷ 1 ∷ 1 ∷ []) (parse appendix_list)
-      ≡ Chosen.Usable
-      (record { key_id = record { 0 = 1 }; kem = 0x0020; kdf = 1; aead = 1; key_start = 5; key_end = 37 })
+      ≡ Ok (record { key_id = record { 0 = 1 }; kem = 0x0020; pair = record { kdf = 1; aead = 1 }; key = span 5 37 })
   -- halves that are listed in different pairs
-  pub crossed : choose_from (0x0020 ∷ []) (1 ∷ 2 ∷ 2 ∷ 3 ∷ []) (parse appendix_list) ≡ Chosen.Refused (refused 16)
-  pub other_kem : choose_from (0x0021 ∷ []) (1 ∷ 3 ∷ []) (parse appendix_list) ≡ Chosen.Refused (refused 16)
-  pub odd_pairs : choose_from (0x0021 ∷ []) (1 ∷ 3 ∷ 1 ∷ []) (parse appendix_list) ≡ Chosen.Refused (refused 13)
-  pub bad_first : choose_from [] (1 ∷ []) (parse (0 ∷ [])) ≡ Chosen.Refused (refused_at 18 0)
+  pub crossed : choose_from (0x0020 ∷ []) (1 ∷ 2 ∷ 2 ∷ 3 ∷ []) (parse appendix_list) ≡ Err (refused 16)
+  pub other_kem : choose_from (0x0021 ∷ []) (1 ∷ 3 ∷ []) (parse appendix_list) ≡ Err (refused 16)
+  pub odd_pairs : choose_from (0x0021 ∷ []) (1 ∷ 3 ∷ 1 ∷ []) (parse appendix_list) ≡ Err (refused 13)
+  pub bad_first : choose_from [] (1 ∷ []) (parse (0 ∷ [])) ≡ Err (refused_at 18 0)
   -- room one byte short in either buffer; enc, pair and KEM wrong, each with all that follows wrong too
   pub head_order :
       head_refusal 0x0020 1 1 (replicate 32 0) 39 29

@@ -1,10 +1,10 @@
 -- 01, "Head": 7 + Nenc bytes of the request and 29 bytes of info, each at the front of its buffer; 3, 6, 13, 14.
-use Rattle.std.specs.Prelude.{ℕ, zero, suc, ◌+◌, not, List, ◌++◌, eqb, leb, length}
+use Rattle.std.specs.Prelude.{ℕ, ◌+◌, not, List, ◌++◌, Result, eqb, leb, length}
 use Rattle.wire.specs.Tests.{◌and◌}
-use Rattle.wire.specs.Refusals.{◌when◌otherwise◌, refused, written}
+use Rattle.wire.specs.Refusals.{◌when◌otherwise◌, result_by, written}
+use Rattle.wire.specs.declared.refusal.Refusal.{Refusal}
 use Rattle.wire.specs.Texts.{head_length, head_bytes, info_length, info_bytes}
 use Rattle.algorithms.specs.Sizes.{known_kem, known_pair, enc_length}
-use Rattle.client.specs.declared.head.HeadAnswer.{HeadAnswer}
 
 -- 01, "Order", head; 0: no refusal
 unfoldable pub head_refusal : ℕ → ℕ → ℕ → List ℕ → ℕ → ℕ → ℕ
@@ -19,14 +19,9 @@ head_refusal kem kdf aead enc head_room info_room =
 abbrev pub head_and_enc : ℕ → ℕ → ℕ → ℕ → List ℕ → List ℕ
 head_and_enc key_id kem kdf aead enc = head_bytes key_id kem kdf aead ++ enc
 
--- the answer of a refusal number: with 0, how many bytes of the request were written
-abbrev pub head_answer : ℕ → ℕ → HeadAnswer
-head_answer zero size = HeadAnswer.Length size
-head_answer (suc n) size = HeadAnswer.Refused (refused (suc n))
-
--- what head gives: its answer, and the bytes of its two buffers after it
+-- what head gives: its answer, which is how many bytes of the request were written, and the bytes of its two buffers after it
 pub record HeadDone : Type 0 where
-  pub answer : HeadAnswer
+  pub answer : Result ℕ Refusal
   pub head : List ℕ
   pub info : List ℕ
 
@@ -35,7 +30,7 @@ unfoldable pub head_does : ℕ → ℕ → ℕ → ℕ → List ℕ → List ℕ
 head_does key_id kem kdf aead enc head info =
     let number = head_refusal kem kdf aead enc (length head) (length info) in
     record {
-      answer = head_answer number (head_length + enc_length kem);
+      answer = result_by number (head_length + enc_length kem);
       head = written number (head_and_enc key_id kem kdf aead enc) head;
       info = written number (info_bytes (head_bytes key_id kem kdf aead)) info;
     }

@@ -1,21 +1,15 @@
 // The head of a request and its info.
-ghost use Rattle.std.specs.Prelude.{◌≡◌};
+ghost use Rattle.std.specs.Prelude.{◌≡◌, length};
 ghost use Rattle.client.specs.Head.{head_refusal, head_does};
+ghost use Rattle.client.specs.Helpers.{number_of_check};
 
-use algorithms::{Aead, Kdf, Kem, Size, is_known_pair};
+use algorithms::{Aead, Kdf, Kem, is_known_pair};
 use keylist::KeyId;
 use wire::bytes::overwrite;
-use wire::refusal::Refusal;
+use wire::refusal::{Reason, Refusal};
 use wire::texts;
 
-// The length of the head that was written, or the refusal.
-#[derive(Clone, Copy)]
-pub enum HeadAnswer {
-    Length(usize),
-    Refused(Refusal),
-}
-
-// Writes the head of a request and its info, each at the front of its buffer, or refuses and writes nothing.
+// Writes the head of a request and its info, each at the front of its buffer, and answers the head's length, or refuses and writes nothing.
 pub fn write(
     key_id: KeyId,
     kem: Kem,
@@ -24,40 +18,43 @@ pub fn write(
     enc: &[u8],
     head: &mut [u8],
     info: &mut [u8],
-) -> HeadAnswer
+) -> Result<usize, Refusal>
     ensures { let done = head_does key_id.0 kem.0 kdf.0 aead.0 enc.now head.old info.old in
         (result ≡ done.answer) × (head.new ≡ done.head) × (info.new ≡ done.info) }
 {
-    let number = refusal(kem, kdf, aead, enc, head.len(), info.len());
-    if number != 0 {
-        return HeadAnswer::Refused(Refusal::of(number));
-    }
+    check(kem, kdf, aead, enc, head.len(), info.len())?;
     let front = texts::head(key_id.0, kem.0, kdf.0, aead.0);
     overwrite(head, 0, &front);
     overwrite(head, texts::HEAD_LENGTH, enc);
     let context = texts::info(front);
     overwrite(info, 0, &context);
-    HeadAnswer::Length(texts::HEAD_LENGTH + enc.len())
+    Ok(texts::HEAD_LENGTH + enc.len())
 }
 
-// The number of the first refusal that applies, 0 where none does.
-fn refusal(kem: Kem, kdf: Kdf, aead: Aead, enc: &[u8], head_room: usize, info_room: usize) -> u8
-    ensures { result ≡ head_refusal kem.0 kdf.0 aead.0 enc.now head_room info_room }
+// The first refusal that applies.
+#[tactic(auto, using(crate::proofs::Fronts::unknown_kem))]
+fn check(
+    kem: Kem,
+    kdf: Kdf,
+    aead: Aead,
+    enc: &[u8],
+    head_room: usize,
+    info_room: usize,
+) -> Result<(), Reason>
+    ensures { number_of_check result ≡ head_refusal kem.0 kdf.0 aead.0 enc.now head_room info_room }
 {
-    let Size::Bytes(size) = kem.enc_length() else {
-        return Refusal::UNKNOWN_KEM;
-    };
+    let size = kem.enc_length().ok_or(Reason::UnknownKem)?;
     if !is_known_pair(kdf, aead) {
-        return Refusal::PAIR_NOT_OFFERED;
+        return Err(Reason::PairNotOffered);
     }
     if enc.len() != size {
-        return Refusal::WRONG_LENGTH;
+        return Err(Reason::WrongLength);
     }
     if head_room < texts::HEAD_LENGTH + size {
-        return Refusal::NO_ROOM;
+        return Err(Reason::NoRoom);
     }
     if info_room < texts::INFO_LENGTH {
-        return Refusal::NO_ROOM;
+        return Err(Reason::NoRoom);
     }
-    0
+    Ok(())
 }

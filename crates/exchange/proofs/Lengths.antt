@@ -1,24 +1,21 @@
 -- What respond's test of lengths tells, and what no refusal of a call tells.
 -- Assumes nothing.
-use mathlib.Core.Path.{◌≡◌, refl}
+use mathlib.Core.Path.{◌≡◌}
 use mathlib.Core.Bool.{true, false, not}
-use Prim.Native.Nat.{ℕ, zero, suc, ◌+◌, ◌≤◌}
+use Prim.Native.Nat.{ℕ, ◌+◌, ◌≤◌}
 use native.Mathlib.Omega.{arith}
 use lib.Dec.{eqb, ltb}
 use borrow.Author.Tests.{eqb-true, leb-true, ltb-false, not-false}
-use Rattle.wire.specs.Refusals.{refused}
-use Rattle.wire.proofs.Booleans.{either}
+use Rattle.wire.proofs.Booleans.{either, and_left, and_right}
 use Rattle.wire.proofs.Numbers.{not-refused}
-use Rattle.keylist.proofs.LayoutLaws.{both}
 use Rattle.algorithms.specs.Stated.{size_bound}
 use Rattle.algorithms.specs.Sizes.{known_kem, known_aead, enc_length, response_nonce_length}
 use Rattle.algorithms.proofs.Stated.{size_bounds}
 use Rattle.exchange.specs.declared.Exchange.{Exchange}
 use Rattle.exchange.specs.declared.Move.{Move}
-use Rattle.exchange.specs.declared.StepAnswer.{StepAnswer}
-use Rattle.exchange.specs.Exchange.{is_free, response_holds}
+use Rattle.exchange.specs.Exchange.{is_free, has_enc, has_nonce, response_holds}
 use Rattle.wire.specs.Texts.{longest_plain}
-use Rattle.exchange.specs.Steps.{is_allowed, lengths_hold, refusal_by, answer_by}
+use Rattle.exchange.specs.Steps.{is_allowed, lengths_hold, refusal_by}
 use Rattle.exchange.specs.Moved.{of_ticket}
 
 -- the lengths that hold, as numbers, and the nonce's bound
@@ -30,13 +27,12 @@ pub record Lengths (enc nonce plain : ℕ) (e : Exchange) : Type 0 where
 
 pub lengths : (enc nonce plain : ℕ) (e : Exchange) → response_holds enc nonce plain e ≡ true → Lengths enc nonce plain e
 lengths enc nonce plain e h =
-    let ((is_kem, is_enc), ((is_aead, is_nonce), is_short)) =
-    both (both {a = known_kem e.kem} (λ known. known) (eqb-true enc (enc_length e.kem)))
-    (both (both {a = known_aead e.aead} (λ known. known) (eqb-true nonce (response_nonce_length e.aead))) (leb-true plain longest_plain)) h in
+    let later = and_right (has_enc enc e) _ h in
+    let is_nonce = eqb-true nonce _ (and_right (known_aead e.aead) _ (and_left (has_nonce nonce e) _ later)) in
     record {
-      is_enc = is_enc;
+      is_enc = eqb-true enc _ (and_right (known_kem e.kem) _ (and_left (has_enc enc e) _ h));
       is_nonce = is_nonce;
-      is_short = is_short;
+      is_short = leb-true plain longest_plain (and_right (has_nonce nonce e) _ later);
       nonce_bound = omega (arith, size_bounds.nonce_bound e.aead);
     }
 
@@ -67,8 +63,3 @@ pub own_accepted : (ticket : ℕ) (kind : Move) (enc_size nonce_size room : ℕ)
 unfolding refusal_by
 own_accepted ticket kind enc_size nonce_size room e none =
     either (eqb e.ticket.0 ticket) (λ own. rw own) (λ other. let z : ◌≡◌ {A = ℕ} 11 0 = rw other at none in absurd (omega arith))
-
--- the answer where a number refuses
-pub answer_refused : (n : ℕ) (a : StepAnswer) → (n ≡ 0 → ⊥) → StepAnswer.Refused (refused n) ≡ answer_by n a
-answer_refused zero a h = absurd (h refl)
-answer_refused (suc n) a h = refl

@@ -2,6 +2,7 @@
 -- Assumes nothing.
 use mathlib.Core.Path.{◌≡◌, refl}
 use mathlib.Core.Bool.{true, false}
+use Rattle.std.proofs.Common.{Ok}
 use Prim.Native.Nat.{ℕ}
 use Rattle.wire.specs.Tests.{pick}
 use lib.Dec.{eqb}
@@ -9,7 +10,7 @@ use Rattle.wire.proofs.Booleans.{either, true_or_false}
 use Rattle.exchange.specs.declared.Exchange.{Exchange}
 use Rattle.exchange.specs.declared.Move.{Move}
 use Rattle.exchange.specs.Exchange.{closed_phase, asked_phase, free, is_free, is_asked, is_opened, left_in}
-use Rattle.exchange.specs.Steps.{when_opened, is_allowed, leaves, closes, fails, accepted, step_number, step_unprotected}
+use Rattle.exchange.specs.Steps.{when_opened, is_allowed, leaves, closes, fails, accepted, step_unprotected}
 
 -- what is left of the exchange has its ticket
 pub next-ticket : (phase : ℕ) (e : Exchange) → is_free (left_in phase e) ≡ false → (left_in phase e).ticket.0 ≡ e.ticket.0
@@ -53,15 +54,8 @@ failing_not_opened Move.Abandon f = absurd (true_or_false f refl)
 pub failing_asked : (kind : Move) (e : Exchange) → fails kind ≡ true → is_asked e ≡ false → is_allowed kind e ≡ false
 failing_asked kind e f other = rw (other, failing_not_opened kind f) (either (is_opened e) (λ o. rw o) (λ o. rw o))
 
--- the answer of an accepted call has no number, and is unprotected only where opening failed
-pub accepted_number : (kind : Move) (nonce : ℕ) → step_number (accepted kind nonce) ≡ 0
-unfolding step_number
-accepted_number (Move.Open n) nonce = refl
-accepted_number Move.Fail nonce = refl
-accepted_number (Move.Respond plain) nonce = refl
-accepted_number Move.Abandon nonce = refl
-
-pub accepted_unprotected : (kind : Move) (nonce : ℕ) → step_unprotected (accepted kind nonce) ≡ pick (fails kind) 422 0
+-- the answer of an accepted call is unprotected only where opening failed
+pub accepted_unprotected : (kind : Move) (nonce : ℕ) → step_unprotected (Ok (accepted kind nonce)) ≡ pick (fails kind) 422 0
 unfolding step_unprotected
 accepted_unprotected (Move.Open n) nonce = refl
 accepted_unprotected Move.Fail nonce = refl

@@ -5,15 +5,16 @@ use mathlib.Core.Bool.{true, false}
 use Prim.Native.Nat.{ℕ, zero, suc}
 use lib.ListN.{length}
 use Rattle.wire.specs.Tests.{pick}
-use Rattle.wire.specs.Refusals.{unless_refused}
+use Rattle.std.proofs.Common.{Ok}
+use Rattle.wire.specs.Refusals.{result_by, unless_refused}
 use Rattle.wire.proofs.Booleans.{either, true_or_false}
 use Rattle.exchange.specs.declared.Exchange.{Exchange}
 use Rattle.exchange.specs.declared.Move.{Move}
 use Rattle.exchange.specs.declared.StepAnswer.{StepAnswer}
 use Rattle.exchange.specs.Exchange.{is_free, is_asked}
-use Rattle.exchange.specs.Steps.{Step, refusal_by, refusal, fails, answer_by, answer, step_number, step_unprotected}
+use Rattle.exchange.specs.Steps.{Step, refusal_by, refusal, fails, accepted, answer, step_number, step_unprotected}
 use Rattle.exchange.proofs.Lengths.{Accepted, accepted_by}
-use Rattle.exchange.proofs.Moves.{failing_asked, accepted_number, accepted_unprotected}
+use Rattle.exchange.proofs.Moves.{failing_asked, accepted_unprotected}
 
 -- what an accepted call found
 found_by : (step : Step) (e : Exchange) → refusal step e ≡ 0 → Accepted step.kind (length step.enc) (length step.nonce) (length step.salt) e
@@ -28,16 +29,16 @@ unfolding refusal_by
 free_refuses step e f = rw f
 
 -- the number of an answer is the one that decided it
-answer_number : (n : ℕ) (a : StepAnswer) → step_number a ≡ 0 → step_number (answer_by n a) ≡ n
+answer_number : (n : ℕ) (a : StepAnswer) → step_number (result_by n a) ≡ n
 unfolding step_number
-answer_number zero a z = z
-answer_number (suc n) a z = refl
+answer_number zero a = refl
+answer_number (suc n) a = refl
 
 pub step-number : (step : Step) (e : Exchange) → step_number (answer step e) ≡ refusal step e
-step-number step e = answer_number (refusal step e) _ (accepted_number step.kind (length step.nonce))
+step-number step e = answer_number (refusal step e) (accepted step.kind (length step.nonce))
 
 -- a refusal is not unprotected
-answer_unprotected : (n : ℕ) (a : StepAnswer) → step_unprotected (answer_by n a) ≡ unless_refused n (step_unprotected a) 0
+answer_unprotected : (n : ℕ) (a : StepAnswer) → step_unprotected (result_by n a) ≡ unless_refused n (step_unprotected (Ok a)) 0
 unfolding step_unprotected
 answer_unprotected zero a = refl
 answer_unprotected (suc n) a = refl

@@ -1,4 +1,4 @@
--- What `Exchange::moved` leaves of the exchange at a place of the table, refused or not.
+-- What `Exchange::step` leaves of the exchange at a place of the table, refused or not.
 use Rattle.std.specs.Prelude.{ℕ, eqb}
 use Rattle.wire.specs.Tests.{pick}
 use Rattle.wire.specs.Refusals.{unless_refused}

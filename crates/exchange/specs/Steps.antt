@@ -1,7 +1,8 @@
 -- 01, "An exchange, step by step": the calls on a ticket, each as what it does to the exchange that has the ticket.
-use Rattle.std.specs.Prelude.{ℕ, zero, suc, ◌+◌, Bool, true, false, not, List, [], ◌++◌, ltb, length}
+use Rattle.std.specs.Prelude.{ℕ, ◌+◌, Bool, true, false, not, List, [], ◌++◌, ltb, length, Result, Ok, Err}
 use Rattle.wire.specs.Tests.{pick}
-use Rattle.wire.specs.Refusals.{◌when◌otherwise◌, refused, written}
+use Rattle.wire.specs.Refusals.{◌when◌otherwise◌, result_by, written}
+use Rattle.wire.specs.declared.refusal.Refusal.{Refusal}
 use Rattle.algorithms.specs.Sizes.{tag_length}
 use Rattle.exchange.specs.declared.Exchange.{Exchange}
 use Rattle.exchange.specs.declared.Move.{Move}
@@ -89,33 +90,26 @@ accepted Move.Fail nonce_size = StepAnswer.Failed 422
 accepted (Move.Respond plain) nonce_size = StepAnswer.Sealed (record { status = 200; length = nonce_size + plain + tag_length })
 accepted Move.Abandon nonce_size = StepAnswer.Abandoned
 
--- the answer, by the refusal number
-abbrev pub answer_by : ℕ → StepAnswer → StepAnswer
-answer_by zero a = a
-answer_by (suc n) a = StepAnswer.Refused (refused (suc n))
-
-abbrev pub answer : Step → Exchange → StepAnswer
-answer s e = answer_by (refusal s e) (accepted s.kind (length s.nonce))
+-- the answer, or the refusal
+abbrev pub answer : Step → Exchange → Result StepAnswer Refusal
+answer s e = result_by (refusal s e) (accepted s.kind (length s.nonce))
 
 -- the salt buffer after the call: enc, then nonce, at its front
 abbrev pub buffer : Step → Exchange → List ℕ
 buffer s e = written (refusal s e) (s.enc ++ s.nonce) s.salt
 
 -- 01's refusal number of an answer; 0: the call is accepted
-unfoldable pub step_number : StepAnswer → ℕ
-step_number StepAnswer.Opened = 0
-step_number (StepAnswer.Failed status) = 0
-step_number (StepAnswer.Sealed s) = 0
-step_number StepAnswer.Abandoned = 0
-step_number (StepAnswer.Refused r) = r.number
+unfoldable pub step_number : Result StepAnswer Refusal → ℕ
+step_number (Ok a) = 0
+step_number (Err r) = r.number
 
 -- the status of an answer that goes out unprotected, that of a failed opening; 0 where none does
-unfoldable pub step_unprotected : StepAnswer → ℕ
-step_unprotected StepAnswer.Opened = 0
-step_unprotected (StepAnswer.Failed status) = status
-step_unprotected (StepAnswer.Sealed s) = 0
-step_unprotected StepAnswer.Abandoned = 0
-step_unprotected (StepAnswer.Refused r) = 0
+unfoldable pub step_unprotected : Result StepAnswer Refusal → ℕ
+step_unprotected (Ok StepAnswer.Opened) = 0
+step_unprotected (Ok (StepAnswer.Failed status)) = status
+step_unprotected (Ok (StepAnswer.Sealed s)) = 0
+step_unprotected (Ok StepAnswer.Abandoned) = 0
+step_unprotected (Err r) = 0
 
 -- what the theorems say of the calls, apart from the rules above: which close the exchange where they are accepted, and which is the failure of
 -- open result

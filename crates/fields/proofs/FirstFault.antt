@@ -14,34 +14,35 @@ use lib.Seq.{length-take-le}
 use Rattle.wire.specs.Bytes.{byte_at}
 use Rattle.wire.proofs.Agreeing.{Agree, before, every, one, same_from, whole_before}
 use Rattle.wire.proofs.Booleans.{either}
-use Rattle.integers.specs.Integers.{integer_at}
+use Rattle.integers.specs.Integers.{integer_at, whole}
 use Rattle.integers.specs.Stated.{AreBytes}
-use Rattle.integers.specs.declared.Integer.{Integer}
 use Rattle.integers.proofs.Agreeing.{same_cut, same_integer}
 use Rattle.integers.proofs.Stated.{integer_bounds}
 use Rattle.fields.specs.Fields.{field_at, fields_from, name_at, name_fault, value_at, value_fault}
 use Rattle.fields.specs.Octets.{blank, class_of, first_below, text, token}
-use Rattle.fields.specs.Parts.{good, wrong_at, ◌and_then◌, judged, prefixed_at, Reading}
+use Rattle.std.specs.Prelude.{None, Result, Ok}
+use Rattle.fields.specs.Parts.{wrong_at, ◌and_then◌, judged, prefixed_at}
+use Rattle.fields.specs.declared.fault.BadMessage.{BadMessage}
 use Rattle.fields.specs.declared.field.Field.{Field}
-use Rattle.fields.specs.declared.parts.Span.{Span}
+use Rattle.wire.specs.declared.span.Span.{Span}
 use Rattle.fields.proofs.Readings.{differ, first_wrong, judged_good, judged_wrong, prefixed_inside, prefixed_past, prefixed_stands, prefixed_whole, prefixed_cut, prefixed_wrong, then_good, then_wrong}
 use Rattle.fields.proofs.Sections.{field_inside, field_of, field-parts, field_wrong, field_wrong_name, field_wrong_value, name_lies}
 
 module _ {n : ℕ} {a b : List ℕ} (agree : Agree n a b) (at : ℕ) where
   -- a part behind its length, where they agree on that
-  pub same_prefixed : (place other : ℕ) (span : Span) → prefixed_at a at place ≡ good span → span.start ≤ n → prefixed_at b at other ≡ good span
+  pub same_prefixed : (place other : ℕ) (span : Span) → prefixed_at a at place ≡ Ok span → span.start ≤ n → prefixed_at b at other ≡ Ok span
   same_prefixed place other span e h =
       let stands = prefixed_stands a at place span e in
       let whole = same_integer agree at (span.end - span.start) span.start stands.0 h in
       let end : span.start + (span.end - span.start) ≡ span.end = omega (arith, stands.1) in
       prefixed_whole b at other (span.end - span.start) span.start whole (omega (arith, stands.1, stands.2, agree.same))
-      ∙ ap (λ (k : ℕ). good (record { start = span.start; end = k })) end
+      ∙ ap (λ (k : ℕ). Ok (record { start = span.start; end = k })) end
 
   pub same_not_prefixed : (place p : ℕ) → AreBytes a → prefixed_at a at place ≡ wrong_at p → at + 8 ≤ n → prefixed_at b at place ≡ wrong_at p
   same_not_prefixed place p bytes e h = by_reason (prefixed_wrong a at place p e).1 ∙ ap wrong_at (sym (prefixed_wrong a at place p e).0)
     where
-      by_reason : ((integer_at a at ≡ Integer.Cut)
-          ⊎ ((size : ℕ) × (start : ℕ) × (integer_at a at ≡ Integer.Whole size start) × (length a < start + size)))
+      by_reason : ((integer_at a at ≡ None)
+          ⊎ ((size : ℕ) × (start : ℕ) × (integer_at a at ≡ whole size start) × (length a < start + size)))
           → prefixed_at b at place ≡ wrong_at place
       by_reason (inl cut) = prefixed_cut b at place (same_cut agree at cut (omega arith))
       by_reason (inr r) =
@@ -110,11 +111,11 @@ pub record Judging (fault : List ℕ → Span → ℕ) (at : ℕ) : Type 0 where
 
 -- a part behind its length that is judged so
 module _ {fault : List ℕ → Span → ℕ} {at : ℕ} (judging : Judging fault at) where
-  abbrev judged_part : List ℕ → Reading Span
+  abbrev judged_part : List ℕ → Result Span BadMessage
   judged_part bytes = prefixed_at bytes at at and_then (λ span. judged span (fault (take span.end bytes) span))
 
   -- where its bytes are wrong
-  wrong_inside : (bytes : List ℕ) (p : ℕ) (span : Span) → prefixed_at bytes at at ≡ good span → judged span (fault (take span.end bytes) span) ≡ wrong_at p
+  wrong_inside : (bytes : List ℕ) (p : ℕ) (span : Span) → prefixed_at bytes at at ≡ Ok span → judged span (fault (take span.end bytes) span) ≡ wrong_at p
       → (p ≡ fault (take span.end bytes) span) × (at ≤ p)
   wrong_inside bytes p span e d =
       let inside = prefixed_inside bytes at at span e in
@@ -126,7 +127,7 @@ module _ {fault : List ℕ → Span → ℕ} {at : ℕ} (judging : Judging fault
   judged_part_from bytes p e = by_reason (then_wrong (prefixed_at bytes at at) _ e)
     where
       by_reason : ((prefixed_at bytes at at ≡ wrong_at p)
-          ⊎ ((span : Span) × (prefixed_at bytes at at ≡ good span) × (judged span (fault (take span.end bytes) span) ≡ wrong_at p))) → at ≤ p
+          ⊎ ((span : Span) × (prefixed_at bytes at at ≡ Ok span) × (judged span (fault (take span.end bytes) span) ≡ wrong_at p))) → at ≤ p
       by_reason (inl wrong) = omega (arith, (prefixed_wrong bytes at at p wrong).0)
       by_reason (inr r) = (wrong_inside bytes p r.0 r.1 r.2).1
 
@@ -134,7 +135,7 @@ module _ {fault : List ℕ → Span → ℕ} {at : ℕ} (judging : Judging fault
   judged_part_wrong {a} {b} p bytes agree e = by_reason (then_wrong (prefixed_at a at at) _ e)
     where
       by_reason : ((prefixed_at a at at ≡ wrong_at p)
-          ⊎ ((span : Span) × (prefixed_at a at at ≡ good span) × (judged span (fault (take span.end a) span) ≡ wrong_at p))) → judged_part b ≡ wrong_at p
+          ⊎ ((span : Span) × (prefixed_at a at at ≡ Ok span) × (judged span (fault (take span.end a) span) ≡ wrong_at p))) → judged_part b ≡ wrong_at p
       by_reason (inl wrong) =
           let same = same_not_prefixed agree at at p bytes wrong (omega (arith, (prefixed_wrong a at at p wrong).0)) in
           rw same
@@ -146,7 +147,7 @@ module _ {fault : List ℕ → Span → ℕ} {at : ℕ} (judging : Judging fault
           let faults = judging.same (p + 8) (take r.0.end a) (take r.0.end b) (before agree r.0.end) r.0 (omega (arith, inside.0)) in
           rw (same, faults) r.2
 
-  judged_part_good : {n : ℕ} {a b : List ℕ} (span : Span) → Agree n a b → span.end ≤ n → judged_part a ≡ good span → judged_part b ≡ good span
+  judged_part_good : {n : ℕ} {a b : List ℕ} (span : Span) → Agree n a b → span.end ≤ n → judged_part a ≡ Ok span → judged_part b ≡ Ok span
   judged_part_good {n} {a} {b} span agree h e =
       let read = then_good (prefixed_at a at at) (λ span. judged span (fault (take span.end a) span)) e in
       let spans : read.0 ≡ span = judged_good read.0 (fault (take read.0.end a) read.0) span read.2 in
@@ -173,11 +174,11 @@ judging_value at =
 
 -- a name and a value: as they are defined
 module _ {n : ℕ} {a b : List ℕ} (at : ℕ) where
-  same_name : (name : Span) → Agree n a b → name.end ≤ n → name_at a at ≡ good name → name_at b at ≡ good name
+  same_name : (name : Span) → Agree n a b → name.end ≤ n → name_at a at ≡ Ok name → name_at b at ≡ Ok name
   unfolding name_at
   same_name = judged_part_good (judging_name at)
 
-  same_value : (value : Span) → Agree n a b → value.end ≤ n → value_at a at ≡ good value → value_at b at ≡ good value
+  same_value : (value : Span) → Agree n a b → value.end ≤ n → value_at a at ≡ Ok value → value_at b at ≡ Ok value
   unfolding value_at
   same_value = judged_part_good (judging_value at)
 
@@ -199,7 +200,7 @@ unfolding value_at
 value_from bytes at p = judged_part_from (judging_value at) bytes p
 
 -- a field: where it is good, and where it is wrong
-same_field : {n : ℕ} {a b : List ℕ} (at : ℕ) (field : Field) → Agree n a b → field.value.end ≤ n → field_at a at ≡ good field → field_at b at ≡ good field
+same_field : {n : ℕ} {a b : List ℕ} (at : ℕ) (field : Field) → Agree n a b → field.value.end ≤ n → field_at a at ≡ Ok field → field_at b at ≡ Ok field
 same_field {n} {a} {b} at field agree h e =
     let parts = field-parts a at field e in
     let inside = field_inside a at field e in
@@ -208,7 +209,7 @@ same_field {n} {a} {b} at field agree h e =
 field_from : (bytes : List ℕ) (at p : ℕ) → field_at bytes at ≡ wrong_at p → at ≤ p
 field_from bytes at p e = by_reason (field_wrong bytes at p e)
   where
-    by_reason : ((name_at bytes at ≡ wrong_at p) ⊎ ((name : Span) × (name_at bytes at ≡ good name) × (value_at bytes name.end ≡ wrong_at p))) → at ≤ p
+    by_reason : ((name_at bytes at ≡ wrong_at p) ⊎ ((name : Span) × (name_at bytes at ≡ Ok name) × (value_at bytes name.end ≡ wrong_at p))) → at ≤ p
     by_reason (inl wrong) = name_from bytes at p wrong
     by_reason (inr r) =
         let inside = prefixed_inside bytes at at r.0 (name_lies bytes at r.0 r.1) in
@@ -217,7 +218,7 @@ field_from bytes at p e = by_reason (field_wrong bytes at p e)
 same_wrong_field : {a b : List ℕ} (at p : ℕ) → AreBytes a → Agree (p + 8) a b → field_at a at ≡ wrong_at p → field_at b at ≡ wrong_at p
 same_wrong_field {a} {b} at p bytes agree e = by_reason (field_wrong a at p e)
   where
-    by_reason : ((name_at a at ≡ wrong_at p) ⊎ ((name : Span) × (name_at a at ≡ good name) × (value_at a name.end ≡ wrong_at p))) → field_at b at ≡ wrong_at p
+    by_reason : ((name_at a at ≡ wrong_at p) ⊎ ((name : Span) × (name_at a at ≡ Ok name) × (value_at a name.end ≡ wrong_at p))) → field_at b at ≡ wrong_at p
     by_reason (inl wrong) = field_wrong_name b at p (same_wrong_name at p bytes agree wrong)
     by_reason (inr r) =
         let from = value_from a r.0.end p r.2 in
@@ -229,13 +230,13 @@ unfolding fields_from
 fields-from bytes zero at p e = absurd (differ (sym e))
 fields-from bytes (suc more) at p e =
     either (leb (length bytes) at)
-    (λ t. absurd (differ (sym (let z : good [] ≡ wrong_at p = rw t at e in z))))
+    (λ t. absurd (differ (sym (let z : Ok [] ≡ wrong_at p = rw t at e in z))))
     (λ t. by_reason (λ next. fields-from bytes more next p) (then_wrong (field_at bytes at) _ (rw t at e)))
   where
     by_reason : ((next : ℕ) → fields_from more bytes next ≡ wrong_at p → next ≤ p)
         → ((field_at bytes at ≡ wrong_at p)
-        ⊎ ((field : Field) × (field_at bytes at ≡ good field)
-        × ((fields_from more bytes field.value.end and_then (λ fields. good (field ∷ fields))) ≡ wrong_at p))) → at ≤ p
+        ⊎ ((field : Field) × (field_at bytes at ≡ Ok field)
+        × ((fields_from more bytes field.value.end and_then (λ fields. Ok (field ∷ fields))) ≡ wrong_at p))) → at ≤ p
     by_reason again (inl wrong) = field_from bytes at p wrong
     by_reason again (inr r) =
         let later = again r.0.value.end (first_wrong (fields_from more bytes r.0.value.end) (λ fields. r.0 ∷ fields) r.2) in
@@ -246,16 +247,16 @@ unfolding fields_from
 same_wrong_fields zero at p bytes agree e = absurd (differ (sym e))
 same_wrong_fields {a} {b} (suc more) at p bytes agree e =
     either (leb (length a) at)
-    (λ t. absurd (differ (sym (let z : good [] ≡ wrong_at p = rw t at e in z))))
+    (λ t. absurd (differ (sym (let z : Ok [] ≡ wrong_at p = rw t at e in z))))
     (λ t.
     let t' : leb (length b) at ≡ false = rw (← agree.same) t in
     rw t' (by_reason (λ next. same_wrong_fields more next p bytes agree) (then_wrong (field_at a at) _ (rw t at e))))
   where
     by_reason : ((next : ℕ) → fields_from more a next ≡ wrong_at p → fields_from more b next ≡ wrong_at p)
         → ((field_at a at ≡ wrong_at p)
-        ⊎ ((field : Field) × (field_at a at ≡ good field)
-        × ((fields_from more a field.value.end and_then (λ fields. good (field ∷ fields))) ≡ wrong_at p)))
-        → (field_at b at and_then (λ field. fields_from more b field.value.end and_then (λ fields. good (field ∷ fields)))) ≡ wrong_at p
+        ⊎ ((field : Field) × (field_at a at ≡ Ok field)
+        × ((fields_from more a field.value.end and_then (λ fields. Ok (field ∷ fields))) ≡ wrong_at p)))
+        → (field_at b at and_then (λ field. fields_from more b field.value.end and_then (λ fields. Ok (field ∷ fields)))) ≡ wrong_at p
     by_reason again (inl wrong) = rw (same_wrong_field at p bytes agree wrong)
     by_reason again (inr r) =
         let later = first_wrong (fields_from more a r.0.value.end) (λ fields. r.0 ∷ fields) r.2 in

@@ -4,3 +4,4 @@ pub mod Readings
 pub mod Sections
 pub mod FirstFault
 pub mod Walking
+pub mod Places

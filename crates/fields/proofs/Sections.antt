@@ -1,6 +1,6 @@
 -- Laws of fields and sections: what a field that was read is made of, and the fields of a section one after the other.
 -- Assumes nothing.
-use mathlib.Core.Path.{◌≡◌, refl, ap, ◌∙◌}
+use mathlib.Core.Path.{◌≡◌, refl, sym, ap, ◌∙◌}
 use mathlib.Core.List.{List, [], ◌∷◌}
 use mathlib.Core.Logic.{◌⊎◌, inl, inr}
 use Prim.Native.Nat.{ℕ, zero, suc, ◌+◌, ◌≤◌, ◌<◌}
@@ -8,31 +8,32 @@ use native.Mathlib.Nat.{add-zero, zero-add}
 use native.Mathlib.Omega.{arith}
 use borrow.Author.Tests.{le-leb, lt-leb}
 use lib.ListN.{length, take}
-use Rattle.fields.specs.Fields.{field_at, fields_from, fields_in, name_at, name_fault, value_at, value_fault}
-use Rattle.fields.specs.Parts.{good, wrong_at, ◌and_then◌, judged, prefixed_at, Reading, told}
-use Rattle.fields.specs.declared.parts.Span.{Span}
+use Rattle.fields.specs.Fields.{count_in, field_at, fields_from, fields_in, name_at, name_fault, value_at, value_fault}
+use Rattle.std.specs.Prelude.{Result, Ok, Err}
+use Rattle.fields.specs.Parts.{wrong_at, ◌and_then◌, judged, prefixed_at}
+use Rattle.wire.specs.declared.span.Span.{Span}
+use Rattle.fields.specs.declared.fault.BadMessage.{BadMessage}
 use Rattle.fields.specs.declared.field.Field.{Field}
-use Rattle.fields.specs.declared.field.Counted.{Counted}
 use Rattle.fields.proofs.Readings.{first_wrong, judged_good, prefixed_inside, same_good, same_place, then_good}
 
 module _ (bytes : List ℕ) (at : ℕ) where
   -- a name or a value that was read lies as its length says
-  pub name_lies : (span : Span) → name_at bytes at ≡ good span → prefixed_at bytes at at ≡ good span
+  pub name_lies : (span : Span) → name_at bytes at ≡ Ok span → prefixed_at bytes at at ≡ Ok span
   unfolding name_at
   name_lies span e =
       let read = then_good (prefixed_at bytes at at) (λ name. judged name (name_fault (take name.end bytes) name.start at)) e in
-      read.1 ∙ ap good (judged_good read.0 _ span read.2)
+      read.1 ∙ ap Ok (judged_good read.0 _ span read.2)
 
-  pub value_lies : (span : Span) → value_at bytes at ≡ good span → prefixed_at bytes at at ≡ good span
+  pub value_lies : (span : Span) → value_at bytes at ≡ Ok span → prefixed_at bytes at at ≡ Ok span
   unfolding value_at
   value_lies span e =
       let read = then_good (prefixed_at bytes at at) (λ value. judged value (value_fault (take value.end bytes) value.start)) e in
-      read.1 ∙ ap good (judged_good read.0 _ span read.2)
+      read.1 ∙ ap Ok (judged_good read.0 _ span read.2)
 
 module _ (bytes : List ℕ) (at : ℕ) where
   -- a field that was read is its name and its value
-  pub field-parts : (field : Field) → field_at bytes at ≡ good field
-      → (name_at bytes at ≡ good field.name) × (value_at bytes field.name.end ≡ good field.value)
+  pub field-parts : (field : Field) → field_at bytes at ≡ Ok field
+      → (name_at bytes at ≡ Ok field.name) × (value_at bytes field.name.end ≡ Ok field.value)
   unfolding field_at
   field-parts field e =
       let first = then_good (name_at bytes at) _ e in
@@ -40,33 +41,33 @@ module _ (bytes : List ℕ) (at : ℕ) where
       let whole : ◌≡◌ {A = Field} (record { name = first.0; value = second.0 }) field = same_good second.2 in
       rw (← whole) (first.1, second.1)
 
-  pub field_of : (field : Field) → name_at bytes at ≡ good field.name → value_at bytes field.name.end ≡ good field.value
-      → field_at bytes at ≡ good field
+  pub field_of : (field : Field) → name_at bytes at ≡ Ok field.name → value_at bytes field.name.end ≡ Ok field.value
+      → field_at bytes at ≡ Ok field
   unfolding field_at
   field_of field e d = rw (e, d)
 
   -- one that is wrong is so in its name, or behind that in its value
   pub field_wrong : (p : ℕ) → field_at bytes at ≡ wrong_at p
-      → (name_at bytes at ≡ wrong_at p) ⊎ ((name : Span) × (name_at bytes at ≡ good name) × (value_at bytes name.end ≡ wrong_at p))
+      → (name_at bytes at ≡ wrong_at p) ⊎ ((name : Span) × (name_at bytes at ≡ Ok name) × (value_at bytes name.end ≡ wrong_at p))
   unfolding field_at
   field_wrong p e = by_reason (name_at bytes at) refl
     where
-      by_reason : (reading : Reading Span) → name_at bytes at ≡ reading
-          → (name_at bytes at ≡ wrong_at p) ⊎ ((name : Span) × (name_at bytes at ≡ good name) × (value_at bytes name.end ≡ wrong_at p))
-      by_reason (wrong_at q) d = inl (d ∙ ap wrong_at (same_place (let z : ◌≡◌ {A = Reading Field} (wrong_at q) (wrong_at p) = rw d at e in z)))
-      by_reason (good name) d =
+      by_reason : (reading : Result Span BadMessage) → name_at bytes at ≡ reading
+          → (name_at bytes at ≡ wrong_at p) ⊎ ((name : Span) × (name_at bytes at ≡ Ok name) × (value_at bytes name.end ≡ wrong_at p))
+      by_reason (Err bad) d = inl (d ∙ ap wrong_at (same_place {A = Field} (rw d at e)))
+      by_reason (Ok name) d =
           inr (name, d, first_wrong (value_at bytes name.end) (λ value. record { name = name; value = value }) (rw d at e))
 
   pub field_wrong_name : (p : ℕ) → name_at bytes at ≡ wrong_at p → field_at bytes at ≡ wrong_at p
   unfolding field_at
   field_wrong_name p e = rw e
 
-  pub field_wrong_value : (p : ℕ) (name : Span) → name_at bytes at ≡ good name → value_at bytes name.end ≡ wrong_at p → field_at bytes at ≡ wrong_at p
+  pub field_wrong_value : (p : ℕ) (name : Span) → name_at bytes at ≡ Ok name → value_at bytes name.end ≡ wrong_at p → field_at bytes at ≡ wrong_at p
   unfolding field_at
   field_wrong_value p name e d = rw (e, d)
 
   -- and lies behind its place, in the bytes
-  pub field_inside : (field : Field) → field_at bytes at ≡ good field
+  pub field_inside : (field : Field) → field_at bytes at ≡ Ok field
       → (at < field.name.start) × (field.name.start ≤ field.name.end) × (field.name.end < field.value.start)
       × (field.value.start ≤ field.value.end) × (field.value.end ≤ length bytes)
   field_inside field e =
@@ -77,13 +78,13 @@ module _ (bytes : List ℕ) (at : ℕ) where
 
 -- the fields from a place on: none at the end, one and those behind it, or the fault of one
 module _ (bytes : List ℕ) (at : ℕ) where
-  pub fields_end : (more : ℕ) → length bytes ≤ at → fields_from more bytes at ≡ good []
+  pub fields_end : (more : ℕ) → length bytes ≤ at → fields_from more bytes at ≡ Ok []
   unfolding fields_from
   fields_end zero h = refl
   fields_end (suc more) h = rw (le-leb (length bytes) at h)
 
-  pub fields_next : (more : ℕ) (field : Field) → at < length bytes → field_at bytes at ≡ good field
-      → fields_from (suc more) bytes at ≡ (fields_from more bytes field.value.end and_then (λ fields. good (field ∷ fields)))
+  pub fields_next : (more : ℕ) (field : Field) → at < length bytes → field_at bytes at ≡ Ok field
+      → fields_from (suc more) bytes at ≡ (fields_from more bytes field.value.end and_then (λ fields. Ok (field ∷ fields)))
   unfolding fields_from
   fields_next more field h e = rw (lt-leb (length bytes) at h, e)
 
@@ -91,28 +92,33 @@ module _ (bytes : List ℕ) (at : ℕ) where
   unfolding fields_from
   fields_wrong more place h e = rw (lt-leb (length bytes) at h, e)
 
--- so many fields and those that a reading gives
-abbrev pub counted_from : ℕ → Reading (List Field) → Counted
-counted_from n reading = told (λ fields. Counted.Fields (n + length fields)) Counted.Wrong reading
+-- so many fields and those that are read
+abbrev pub counted_from : ℕ → Result (List Field) BadMessage → Result ℕ BadMessage
+counted_from n reading = reading and_then (λ fields. Ok (n + length fields))
 
-counted-cons : (n : ℕ) (field : Field) (reading : Reading (List Field))
-    → counted_from n (reading and_then (λ fields. good (field ∷ fields))) ≡ counted_from (n + 1) reading
-counted-cons n field (good fields) = ap Counted.Fields (let e : n + suc (length fields) ≡ n + 1 + length fields = omega arith in e)
-counted-cons n field (wrong_at place) = refl
+counted-cons : (n : ℕ) (field : Field) (reading : Result (List Field) BadMessage)
+    → counted_from n (reading and_then (λ fields. Ok (field ∷ fields))) ≡ counted_from (n + 1) reading
+counted-cons n field (Ok fields) = ap Ok (let e : n + suc (length fields) ≡ n + 1 + length fields = omega arith in e)
+counted-cons n field (Err bad) = refl
 
 -- a loop over a section that starts at an offset has counted so many fields before its place
 pub record Counting (bytes : List ℕ) (start at n : ℕ) : Type 0 where
   pub more : ℕ
   pub enough : length bytes ≤ more + at
   pub few : n ≤ at
-  pub so_far : counted_from 0 (fields_in bytes start) ≡ counted_from n (fields_from more bytes at)
+  pub so_far : count_in bytes start ≡ counted_from n (fields_from more bytes at)
 
 pub counting_start : (bytes : List ℕ) (start : ℕ) → Counting bytes start start 0
-counting_start bytes start = record { more = length bytes; enough = omega arith; few = omega arith; so_far = refl }
+counting_start bytes start =
+    record { more = length bytes; enough = omega arith; few = omega arith; so_far = from_none (fields_in bytes start) }
+  where
+    from_none : (reading : Result (List Field) BadMessage) → (reading and_then (λ fields. Ok (length fields))) ≡ counted_from 0 reading
+    from_none (Ok fields) = ap Ok (sym (zero-add (length fields)))
+    from_none (Err bad) = refl
 
 module _ {bytes : List ℕ} {start at n : ℕ} (c : Counting bytes start at n) where
-  pub counted_end : length bytes ≤ at → counted_from 0 (fields_in bytes start) ≡ Counted.Fields n
-  counted_end h = c.so_far ∙ ap (counted_from n) (fields_end bytes at c.more h) ∙ ap Counted.Fields (add-zero n)
+  pub counted_end : length bytes ≤ at → count_in bytes start ≡ Ok n
+  counted_end h = c.so_far ∙ ap (counted_from n) (fields_end bytes at c.more h) ∙ ap Ok (add-zero n)
 
   module _ (h : at < length bytes) where
     -- there is a field more to be counted
@@ -123,7 +129,7 @@ module _ {bytes : List ℕ} {start at n : ℕ} (c : Counting bytes start at n) w
         by zero e = absurd (omega (arith, c.enough, e))
         by (suc m) e = (m, e)
 
-    pub counted_next : (field : Field) → field_at bytes at ≡ good field → Counting bytes start field.value.end (n + 1)
+    pub counted_next : (field : Field) → field_at bytes at ≡ Ok field → Counting bytes start field.value.end (n + 1)
     counted_next field e =
         let inside = field_inside bytes at field e in
         record {
@@ -136,13 +142,8 @@ module _ {bytes : List ℕ} {start at n : ℕ} (c : Counting bytes start at n) w
               ∙ counted-cons n field (fields_from some_more.0 bytes field.value.end);
         }
 
-    pub counted_wrong : (place : ℕ) → field_at bytes at ≡ wrong_at place → counted_from 0 (fields_in bytes start) ≡ Counted.Wrong place
-    counted_wrong place e =
+    pub counted_wrong : (bad : BadMessage) → field_at bytes at ≡ Err bad → count_in bytes start ≡ Err bad
+    counted_wrong bad e =
         c.so_far
         ∙ ap (λ (m : ℕ). counted_from n (fields_from m bytes at)) some_more.1
-        ∙ ap (counted_from n) (fields_wrong bytes at some_more.0 place h e)
-
--- no field was counted before the first
-pub counted_all : (reading : Reading (List Field)) → counted_from 0 reading ≡ told (λ fields. Counted.Fields (length fields)) Counted.Wrong reading
-counted_all (good fields) = ap Counted.Fields (zero-add (length fields))
-counted_all (wrong_at place) = refl
+        ∙ ap (counted_from n) (fields_wrong bytes at some_more.0 bad.place h e)

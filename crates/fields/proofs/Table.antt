@@ -12,7 +12,6 @@ use lib.ListN.{length, get_or}
 use Rattle.wire.specs.Tests.{◌and◌}
 use Rattle.wire.proofs.Booleans.{and_left, and_right}
 use Rattle.fields.specs.Octets.{class_of}
-use Rattle.fields.specs.Helpers.{HasClasses}
 
 -- each entry, its place counted from the first one, has its octet's class
 abbrev pub have_classes : ℕ → List ℕ → Bool
@@ -29,6 +28,6 @@ carried first (class ∷ classes) t (suc k) h =
     ∙ ap class_of e
 
 -- the table, of 256 entries
-pub has_classes : (classes : List ℕ) → length classes ≡ 256 → have_classes 0 classes ≡ true → HasClasses classes
-unfolding HasClasses
+pub has_classes : (classes : List ℕ) → length classes ≡ 256 → have_classes 0 classes ≡ true → (octet : ℕ) → octet < 256
+    → get_or classes octet 0 ≡ class_of octet
 has_classes classes e t octet h = carried 0 classes t octet (omega arith) ∙ ap class_of (zero-add octet)

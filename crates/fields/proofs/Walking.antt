@@ -4,19 +4,21 @@ use mathlib.Core.Path.{◌≡◌, refl, sym, ap, ◌∙◌}
 use mathlib.Core.List.{List, [], ◌∷◌, map}
 use Prim.Native.Nat.{ℕ, zero, suc, ◌+◌, ◌≤◌, ◌<◌}
 use native.Mathlib.Omega.{arith}
-use borrow.Author.Tests.{le-leb}
+use borrow.Author.Tests.{le-leb, lt-leb, leb-false}
 use lib.Dec.{leb}
 use lib.ListN.{length}
 use Rattle.wire.proofs.Booleans.{either}
 use Rattle.fields.specs.Fields.{field_at, fields_from}
-use Rattle.fields.specs.Parts.{good, wrong_at, prefixed_at, Reading}
-use Rattle.fields.specs.Reader.{field_bytes, next_field, place_behind, ReaderGivesTheFields, walked}
+use Rattle.std.specs.Prelude.{Result, Ok, Err}
+use Rattle.fields.specs.Parts.{prefixed_at}
+use Rattle.fields.specs.Reader.{field_bytes, fields_left, name_in, next_field, place_behind, value_in, ReaderGivesTheFields, walked}
+use Rattle.fields.specs.declared.fault.BadMessage.{BadMessage}
 use Rattle.fields.specs.declared.field.Field.{Field}
 use Rattle.fields.proofs.Readings.{prefixed_inside, same_good, then_good}
 use Rattle.fields.proofs.Sections.{field_inside, field-parts, fields_end, name_lies, value_lies}
 
 -- a field that was judged lies as its lengths say
-next_is : (bytes : List ℕ) (at : ℕ) (field : Field) → field_at bytes at ≡ good field → next_field bytes at ≡ good field
+next_is : (bytes : List ℕ) (at : ℕ) (field : Field) → field_at bytes at ≡ Ok field → next_field bytes at ≡ Ok field
 unfolding next_field
 next_is bytes at field e =
     let parts = field-parts bytes at field e in
@@ -28,9 +30,16 @@ unfolding walked
 walked_end zero bytes at h = refl
 walked_end (suc turns) bytes at h = rw (le-leb (length bytes) at h)
 
+-- before it a turn gives the next field
+walked_next : (turns : ℕ) (bytes : List ℕ) (at : ℕ) → at < length bytes
+    → walked (suc turns) bytes at
+    ≡ (name_in bytes (next_field bytes at), value_in bytes (next_field bytes at)) ∷ walked turns bytes (place_behind bytes (next_field bytes at))
+unfolding walked
+walked_next turns bytes at h = rw (lt-leb (length bytes) at h)
+
 -- the reader's turns, where there are enough of them and of the definition's
 walks : (more turns : ℕ) (bytes : List ℕ) (at : ℕ) (fields : List Field) → length bytes ≤ more + at → length bytes ≤ turns + at
-    → fields_from more bytes at ≡ good fields → walked turns bytes at ≡ map (field_bytes bytes) fields
+    → fields_from more bytes at ≡ Ok fields → walked turns bytes at ≡ map (field_bytes bytes) fields
 unfolding fields_from walked
 walks zero turns bytes at fields enough more e = walked_end turns bytes at (omega arith) ∙ ap (map (field_bytes bytes)) (same_good e)
 walks (suc more) zero bytes at fields enough enough' e =
@@ -56,9 +65,9 @@ moves-on : (bytes : List ℕ) (at : ℕ) → at < length bytes → at < place_be
 unfolding next_field
 moves-on bytes at h = by_reading (next_field bytes at) refl
   where
-    by_reading : (reading : Reading Field) → next_field bytes at ≡ reading → at < place_behind bytes reading
-    by_reading (wrong_at place) e = h
-    by_reading (good field) e =
+    by_reading : (reading : Result Field BadMessage) → next_field bytes at ≡ reading → at < place_behind bytes reading
+    by_reading (Err bad) e = h
+    by_reading (Ok field) e =
         let name = then_good (prefixed_at bytes at at) _ e in
         let value = then_good (prefixed_at bytes name.0.end name.0.end) _ name.2 in
         let whole : ◌≡◌ {A = Field} (record { name = name.0; value = value.0 }) field = same_good value.2 in
@@ -66,6 +75,29 @@ moves-on bytes at h = by_reading (next_field bytes at) refl
         let first = prefixed_inside bytes at at name.0 name.1 in
         let second = prefixed_inside bytes name.0.end name.0.end value.0 value.1 in
         omega (arith, ends, first, second)
+
+-- however many turns there are beyond those that it needs
+same_turns : (m n : ℕ) (bytes : List ℕ) (at : ℕ) → length bytes ≤ m + at → length bytes ≤ n + at → walked m bytes at ≡ walked n bytes at
+unfolding walked
+same_turns zero n bytes at enough enough' = sym (walked_end n bytes at (omega arith))
+same_turns (suc m) zero bytes at enough enough' = walked_end (suc m) bytes at (omega arith)
+same_turns (suc m) (suc n) bytes at enough enough' =
+    either (leb (length bytes) at)
+    (λ t. rw t)
+    (λ t.
+    let on = moves-on bytes at (leb-false (length bytes) at t) in
+    rw (t, same_turns m n bytes (place_behind bytes (next_field bytes at)) (omega arith) (omega arith)))
+
+-- what the reader gives from a place on: nothing at the end, else the next field and what it gives from the place behind it
+module _ (bytes : List ℕ) (at : ℕ) where
+  pub left_end : length bytes ≤ at → fields_left bytes at ≡ []
+  left_end = walked_end (length bytes) bytes at
+
+  pub left_next : at < length bytes
+      → fields_left bytes at
+      ≡ (name_in bytes (next_field bytes at), value_in bytes (next_field bytes at)) ∷ fields_left bytes (place_behind bytes (next_field bytes at))
+  left_next h =
+      same_turns (length bytes) (suc (length bytes)) bytes at (omega arith) (omega arith) ∙ walked_next (length bytes) bytes at h
 
 pub reader_gives_the_fields : ReaderGivesTheFields
 reader_gives_the_fields =

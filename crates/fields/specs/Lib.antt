@@ -3,4 +3,3 @@ pub mod Octets
 pub mod Parts
 pub mod Fields
 pub mod Reader
-pub mod Helpers

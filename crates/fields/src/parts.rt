@@ -1,65 +1,55 @@
 // Parts of a message behind their length.
-ghost use Rattle.std.specs.Prelude.{◌≡◌};
-ghost use Rattle.fields.specs.declared.parts.Part.{Part};
-ghost use Rattle.fields.specs.Parts.{told, bytes_of, prefixed_at, judged};
+ghost use Rattle.std.specs.Prelude.{◌≡◌, take, drop};
+ghost use Rattle.fields.specs.Parts.{bytes_of, prefixed_at, judged};
 
-use integers::Integer;
-
-// Where a part starts and ends.
-#[repr(C)]
-#[derive(Clone, Copy)]
-pub struct Span {
-    pub start: usize,
-    pub end: usize,
-}
-
-// Where a part lies, or the place that is wrong.
-#[derive(Clone, Copy)]
-pub enum Part {
-    Lies(Span),
-    Wrong(usize),
-}
+use crate::fault::BadMessage;
+use wire::span::Span;
 
 // A length at an offset and as many bytes behind it; where they do not lie whole in the bytes, the place given is wrong.
-pub fn prefixed(bytes: &[u8], at: usize, place: usize) -> Part
-    ensures { result ≡ told Part.Lies Part.Wrong (prefixed_at bytes.now at place) }
+#[tactic(auto, unfolding(crate::specs::Parts::prefixed_at))]
+pub fn prefixed(bytes: &[u8], at: usize, place: usize) -> Result<Span, BadMessage>
+    ensures { result ≡ prefixed_at bytes.now at place }
 {
-    let Integer::Whole(size, start) = integers::read(bytes, at) else {
-        return Part::Wrong(place);
-    };
-    if ((bytes.len() - start) as u64) < size {
-        return Part::Wrong(place);
+    let bad = BadMessage { place };
+    let size = integers::read(bytes, at).ok_or(bad)?;
+    if ((bytes.len() - size.end) as u64) < size.value {
+        return Err(bad);
     }
-    Part::Lies(Span {
-        start,
-        end: start + (size as usize),
+    Ok(Span {
+        start: size.end,
+        end: size.end + (size.value as usize),
     })
+}
+
+// The message up to an offset, or all of it where it is shorter.
+pub fn up_to(message: &[u8], end: usize) -> &[u8]
+    ensures { result.now ≡ take end message.now }
+{
+    &message[..end.min(message.len())]
+}
+
+// The message from an offset on; nothing where it is shorter.
+pub fn rest_from(message: &[u8], start: usize) -> &[u8]
+    ensures { result.now ≡ drop start message.now }
+{
+    message.get(start..).unwrap_or(&[])
 }
 
 // The bytes of a part, as far as they lie in the message.
 pub fn bytes_of(message: &[u8], span: Span) -> &[u8]
     ensures { result.now ≡ bytes_of message.now span }
 {
-    let start = span.start;
-    let end = span.end;
-    if end < start {
-        return &message[..0];
-    }
-    if end <= message.len() {
-        return &message[start..end];
-    }
-    if start <= message.len() {
-        return &message[start..];
-    }
-    &message[..0]
+    let rest = rest_from(message, span.start);
+    let count = span.end.saturating_sub(span.start);
+    up_to(rest, count)
 }
 
 // A part that was judged: a place before its end is wrong.
-pub fn judge(span: Span, place: usize) -> Part
-    ensures { result ≡ told Part.Lies Part.Wrong (judged span place) }
+pub fn judge(span: Span, place: usize) -> Result<Span, BadMessage>
+    ensures { result ≡ judged span place }
 {
     if place < span.end {
-        return Part::Wrong(place);
+        return Err(BadMessage { place });
     }
-    Part::Lies(span)
+    Ok(span)
 }

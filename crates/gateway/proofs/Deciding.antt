@@ -18,7 +18,13 @@ use Rattle.keys.specs.Helpers.{key_refusal}
 use Rattle.keys.specs.Stored.{place_of_key}
 use Rattle.keys.proofs.Named.{named_tests, key_order}
 use Rattle.gateway.specs.Registry.{Registry, admit_refusal}
-use Rattle.gateway.specs.Helpers.{◌or_else◌, room_refusal}
+use Rattle.gateway.specs.Helpers.{room_refusal}
+
+infixr 3 ◌or_else◌
+-- the first number, or where it is 0 the second
+abbrev pub ◌or_else◌ : ℕ → ℕ → ℕ
+◌or_else◌ zero m = m
+◌or_else◌ (suc n) m = suc n
 
 -- a first number other than 0 decides
 pub first_number : (a b : ℕ) → (a ≡ 0 → ⊥) → (a or_else b) ≡ a

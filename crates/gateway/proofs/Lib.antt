@@ -1,7 +1,4 @@
 -- Laws that belong to no one function; other crates cite them.
 pub mod Places
 pub mod Deciding
-pub mod Lengths
-pub mod Answers
 pub mod Results
-pub mod Fresh

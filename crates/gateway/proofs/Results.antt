@@ -1,47 +1,64 @@
--- What the calls give, by what an engine and the keys' search find in the gateway.
+-- What the calls give, by what they find in the gateway.
 -- Assumes nothing.
 use mathlib.Core.Path.{◌≡◌, refl, sym, ap, ◌∙◌}
-use mathlib.Core.Bool.{Bool, true, false, not}
-use mathlib.Core.List.{List}
-use Prim.Native.Nat.{ℕ, zero, suc, ◌<◌}
+use mathlib.Core.Bool.{true}
+use mathlib.Core.List.{List, []}
+use Rattle.std.specs.Prelude.{Result, Ok, Err}
+use Prim.Native.Nat.{ℕ, zero, suc, ◌≤◌, ◌<◌}
 use native.Mathlib.Omega.{arith}
 use lib.Dec.{ltb}
-use lib.ListN.{length, get_or, set}
+use lib.ListN.{length, get_or, take, set, replicate, length-append, length-take}
 use lib.Seq.{set-get_or}
-use borrow.Author.Tests.{ltb-true, not-false}
-use Rattle.wire.proofs.Booleans.{either}
-use Rattle.wire.specs.Refusals.{◌when◌otherwise◌, unless_refused, written}
-use Rattle.wire.specs.Texts.{info_length}
-use Rattle.wire.specs.Search.{any_passes}
-use Rattle.wire.proofs.Numbers.{not-refused}
+use borrow.Author.Tests.{le-leb, lt-leb, ltb-false}
+use Rattle.wire.specs.Refusals.{◌when◌otherwise◌, refused, result_by, unless_refused, written}
+use Rattle.wire.specs.declared.refusal.Refusal.{Refusal}
+use Rattle.wire.specs.Bytes.{with_front}
+use Rattle.wire.specs.Helpers.{overwritten}
+use Rattle.wire.specs.Texts.{ascii, head_length, info_length, info_bytes, request_label}
+use Rattle.wire.proofs.Writes.{front_first}
+use Rattle.wire.proofs.Numbers.{unless-refused, not-refused}
+use Rattle.request.proofs.Requests.{accepted_request, info-of}
 use Rattle.exchange.specs.declared.Exchange.{Exchange}
-use Rattle.request.specs.declared.Request.{Request}
 use Rattle.request.specs.Request.{key_id_of, fields_of, info_of}
 use Rattle.request.specs.Helpers.{request_refusal}
-use Rattle.exchange.specs.Exchange.{free, is_free}
+use Rattle.exchange.specs.Exchange.{free, is_free, asked}
 use Rattle.exchange.specs.Steps.{Step, refusal_by, refusal, next, answer, buffer}
 use Rattle.exchange.specs.Moved.{of_ticket, after}
 use Rattle.keys.specs.declared.KeyState.{KeyState}
-use Rattle.keys.specs.declared.Keys.{Keys}
-use Rattle.keys.specs.Keys.{Key, key_of, keys_of}
-use Rattle.keys.specs.Helpers.{key_refusal, retire_refusal_at, given, found_key}
-use Rattle.keys.specs.Stored.{blank_key, one_more, used_state, retired_state, changed_state, place_of_key}
+use Rattle.keys.specs.Keys.{key_of, keys_of, key_with, retire_refusal}
+use Rattle.keys.specs.Helpers.{key_refusal}
+use Rattle.keys.specs.Stored.{blank_key, used_state, retired_state, place_of_key}
 use Rattle.keys.proofs.Arrays.{get_d_any}
-use Rattle.keys.proofs.Named.{found_refusal, found_retirement}
-use Rattle.keys.proofs.Stored.{unread, length_keys}
+use Rattle.keys.proofs.Named.{retire_refusal_at, retire_order}
+use Rattle.keys.proofs.Stored.{unread, length_keys, key-at}
 use Rattle.gateway.specs.declared.Gateway.{Gateway}
+use Rattle.gateway.specs.declared.admission.Admission.{Admission}
+use Rattle.gateway.specs.declared.admission.AdmitRefusal.{AdmitRefusal}
 use Rattle.gateway.specs.declared.table.Engine.{Engine}
-use Rattle.gateway.specs.declared.change.Change.{Change}
-use Rattle.gateway.specs.declared.AdmitAnswer.{AdmitAnswer}
-use Rattle.gateway.specs.Registry.{admit_answer, retire_answer, table_size}
-use Rattle.gateway.specs.Helpers.{exchange_at, admit_number, admitted_change, inside}
+use Rattle.gateway.specs.Registry.{admission, refusal_of_admit, admit_answer}
+use Rattle.gateway.specs.Helpers.{room_refusal}
 use Rattle.gateway.specs.Engines.{place_by, free_place, pending_with, has_number}
 use Rattle.gateway.specs.Gateway.{next_ticket, gateway_does, gateway_admitted, gateway_retired, gateway_admit_number}
 use Rattle.gateway.specs.View.{registry_of, is_full}
-use Rattle.gateway.specs.Change.{changed, Fits}
-use Rattle.gateway.specs.Calls.{Done, admit, retire, on_ticket, of_admit, of_retire, of_step}
-use Rattle.gateway.proofs.Deciding.{none_of_both, admit_order}
-use Rattle.gateway.proofs.Places.{found_own, inside_passes, inside_found}
+use Rattle.gateway.specs.Calls.{Call, Answer, admit, retire, on_ticket, of_admit, of_retire, of_step}
+use Rattle.gateway.proofs.Deciding.{◌or_else◌, first_number, admit_order}
+use Rattle.gateway.proofs.Places.{found_own, none_pending}
+
+-- a refusal is answered only where a number refuses, and is the one of that number
+pub err_by : {A : Type 0} (n : ℕ) (a : A) (r : Refusal) → Err r ≡ result_by n a → (r ≡ refused n) × (n ≡ 0 → ⊥)
+err_by zero a r e = cc
+err_by (suc n) a r e = (cc, λ z. absurd (omega arith))
+
+-- and is the same whatever else would have been answered
+pub err_of : {A B : Type 0} (n : ℕ) (a : A) (b : B) (r : Refusal) → Err r ≡ result_by n a → Err r ≡ result_by n b
+err_of zero a b r e = cc
+err_of (suc n) a b r e = cc
+
+-- what a call leaves, answers and leaves of its buffer is what the gateway does
+pub record Gives (engine : Engine) (g : Gateway) (call : Call) (state : Gateway) (told : Answer) (bytes : List ℕ) : Type 0 where
+  pub gateway : state ≡ (gateway_does engine g call).state
+  pub answer : told ≡ (gateway_does engine g call).answer
+  pub buffer : bytes ≡ (gateway_does engine g call).buffer
 
 -- a gateway with an exchange at a place of the table
 abbrev pub with_exchange : ℕ → Exchange → Gateway → Gateway
@@ -60,47 +77,35 @@ unfolding refusal_by
 free_refused step e f = rw f refl
 
 -- a call on a ticket, by the place that an engine finds and the exchange there
-module _ (engine : Engine) (g : Gateway) (size : length g.table ≡ table_size) (ticket : ℕ) (step : Step) where
+module _ (engine : Engine) (g : Gateway) (ticket : ℕ) (step : Step) where
   abbrev place : ℕ
-  place = inside (place_by engine ticket (has_number ticket) g.table)
+  place = place_by engine ticket (has_number ticket) g.table
 
   abbrev there : Exchange
   there = get_or g.table place free
 
-  abbrev does : Done Gateway
-  does = gateway_does engine g (on_ticket ticket step)
-
-  pub stepped : (with_exchange place (after ticket step there) g ≡ does.state)
-      × (of_step (answer step (of_ticket ticket there)) ≡ does.answer) × (buffer step (of_ticket ticket there) ≡ does.buffer)
+  pub stepped : place < length g.table
+      → Gives engine g (on_ticket ticket step) (with_exchange place (after ticket step there) g) (of_step (answer step (of_ticket ticket there))) (buffer step (of_ticket ticket there))
   unfolding gateway_does
-  stepped =
-      found_own engine ticket g.table size
-      (λ own. rw own.1 (
-        put_back (refusal step there) place (next step there) g ∙ rw own.0,
-        rw own.0 refl,
-        rw own.0 refl,
-      ))
+  stepped inside =
+      found_own engine ticket g.table inside
+      (λ own. record {
+        gateway = rw own.1 (put_back (refusal step there) place (next step there) g ∙ rw own.0 refl);
+        answer = rw own.1 (rw own.0 refl);
+        buffer = rw own.1 (rw own.0 refl);
+      })
       (λ none.
       let e = free_refused step (of_ticket ticket there) none.0 in
       let f = free_refused step (pending_with engine ticket g.table) none.1 in
-      rw (e, f) (put_back 11 place (next step there) g, refl, refl))
+      record { gateway = rw (e, f) (put_back 11 place (next step there) g); answer = rw (e, f) refl; buffer = rw (e, f) refl })
 
--- an exchange put at a place, over a change that changes nothing
-pub put_at : (g : Gateway) (nothing : Change) → changed nothing g ≡ g → (place : ℕ) (e : Exchange)
-    → changed (exchange_at place e nothing) g ≡ with_exchange place e g
-put_at g nothing same place e =
-    ap (λ (h : Gateway). record { last_ticket = h.last_ticket; cap = h.cap; keys = h.keys; table = set g.table place e }) same
-
--- a change with another key
-abbrev with_key : ℕ → KeyState → Change → Change
-with_key place key change =
-    record {
-      last_ticket = change.last_ticket;
-      key_place = place;
-      key = key;
-      place = change.place;
-      exchange = change.exchange;
-    }
+  -- where none is found, the ticket is not pending
+  pub not_pending : length g.table ≤ place
+      → Gives engine g (on_ticket ticket step) g (of_step (Err (refused 11))) step.salt
+  unfolding gateway_does
+  not_pending out =
+      let f = free_refused step (pending_with engine ticket g.table) (none_pending engine ticket g.table out) in
+      record { gateway = rw f refl; answer = rw f refl; buffer = rw f refl }
 
 -- a gateway with a key at a place
 abbrev pub with_key_at : ℕ → KeyState → Gateway → Gateway
@@ -112,150 +117,130 @@ with_key_at place key g =
       table = g.table;
     }
 
--- a key that is not refused is there
-retire_there : (there : Bool) (key : Key) → retire_refusal_at (given there key) 0 ≡ 0 → there ≡ true
-unfolding retire_refusal_at
-retire_there true key none = refl
-retire_there false key none = let z : ◌≡◌ {A = ℕ} 4 0 = none in absurd (omega arith)
+-- the place of a key that is there is one of the array's
+pub key_inside : (g : Gateway) → length g.keys.list ≡ 16 → (place : ℕ) → place < length (keys_of g.keys) → place < 16
+key_inside g whole place there = omega (arith, length_keys g.keys whole)
 
-admit_there : (there : Bool) (key : Key) (cap : ℕ) (request : Request) → key_refusal cap (given there key) 0 request ≡ 0 → there ≡ true
-unfolding key_refusal
-admit_there true key cap request none = refl
-admit_there false key cap request none = let z : ◌≡◌ {A = ℕ} 4 0 = none in absurd (omega arith)
+-- retire, by the key with the id
+module _ (engine : Engine) (g : Gateway) (id : ℕ) where
+  abbrev key_place : ℕ
+  key_place = place_of_key id (keys_of g.keys)
 
--- a key put at a place, over a change that changes nothing
-pub put-key : (g : Gateway) (nothing : Change) → changed nothing g ≡ g → (place : ℕ) (key : KeyState)
-    → changed (with_key place key nothing) g ≡ with_key_at place key g
-put-key g nothing same place key =
-    ap (λ (h : Gateway). record { last_ticket = h.last_ticket; cap = h.cap; keys = (with_key_at place key g).keys; table = h.table }) same
-
--- the key that the code finds, and the key that has the id
-module _ (g : Gateway) (whole : length g.keys.list ≡ 16) (id : ℕ) where
-  abbrev pub key_place : ℕ
-  key_place = (found_key id (keys_of g.keys)).place
-
-  abbrev pub key_there : Bool
-  key_there = (found_key id (keys_of g.keys)).there
-
-  abbrev pub key_found : KeyState
-  key_found = get_or g.keys.list key_place unread
-
-  pub key_below : key_place < 16
-  key_below =
-      let p = place_of_key id (keys_of g.keys) in
-      either key_there (λ there. rw there (omega (arith, length_keys g.keys whole, ltb-true p (length (keys_of g.keys)) there)))
-      (λ none. rw none (omega arith))
-
-  -- where it is there, a change of it is the change of the key with the id
-  changed_key : (change : KeyState → KeyState) → key_there ≡ true
-      → (with_key_at key_place (change key_found) g).keys ≡ changed_state change (place_of_key id (keys_of g.keys)) g.keys
-  changed_key change there =
-      let p = place_of_key id (keys_of g.keys) in
-      let below = ltb-true p (length (keys_of g.keys)) there in
-      rw (there, get_d_any g.keys.list p unread blank_key (omega (arith, whole, length_keys g.keys whole))) refl
-
-  -- where it is put back, nothing changes
-  same_key : with_key_at key_place key_found g ≡ g
-  same_key = rw (set-get_or g.keys.list key_place unread)
-
-  -- retire
-  abbrev retire_number : ℕ
-  retire_number = retire_refusal_at (given key_there (key_of key_found)) 0
-
-  retired_by : (n : ℕ) → n ≡ retire_number
-      → with_key_at key_place (unless_refused n (retired_state key_found) key_found) g ≡ unless_refused n (gateway_retired id g) g
-  retired_by zero none =
-      ap (λ (keys : Keys). record { last_ticket = g.last_ticket; cap = g.cap; keys = keys; table = g.table })
-      (changed_key retired_state (retire_there key_there (key_of key_found) (sym none)))
-  retired_by (suc n) none = same_key
-
-  pub retired : (engine : Engine)
-      → (with_key_at key_place (unless_refused retire_number (retired_state key_found) key_found) g ≡ (gateway_does engine g (retire id)).state)
-      × (of_retire (retire_answer retire_number) ≡ (gateway_does engine g (retire id)).answer)
+  retire_by : (n : ℕ) → retire_refusal (key_with id (keys_of g.keys)) ≡ n
+      → Gives engine g (retire id) (unless_refused n (gateway_retired id g) g) (of_retire (result_by n tt)) []
   unfolding gateway_does
-  retired engine = rw (← found_retirement g.keys whole id) (retired_by retire_number refl, refl)
+  retire_by n e = record { gateway = rw e refl; answer = rw e refl; buffer = refl }
 
-inside_below : (place : ℕ) → inside place < table_size
-inside_below place = either (ltb place table_size) (λ there. rw there (ltb-true place table_size there)) (λ none. rw none (omega arith))
+  -- no key has the id
+  pub retired_none : length (keys_of g.keys) ≤ key_place → Gives engine g (retire id) g (of_retire (Err (refused 4))) []
+  unfolding retire_refusal_at
+  retired_none out =
+      retire_by 4 (sym (retire_order id (keys_of g.keys)) ∙ rw (le-leb (length (keys_of g.keys)) key_place out) refl)
 
--- what admit reads of a gateway
-abbrev pub admit_reads : Engine → List ℕ → Gateway → Change
-admit_reads engine request g =
-    let place = inside (free_place engine (next_ticket g) g.table) in
-    let key = (found_key (key_id_of request) (keys_of g.keys)).place in
-    record {
-      last_ticket = g.last_ticket;
-      key_place = key;
-      key = get_or g.keys.list key unread;
-      place = place;
-      exchange = get_or g.table place free;
-    }
+  module _ (whole : length g.keys.list ≡ 16) (there : key_place < length (keys_of g.keys)) where
+    abbrev key : KeyState
+    key = get_or g.keys.list key_place unread
 
--- by the places that were found
-pub reads_by : (engine : Engine) (request : List ℕ) (g : Gateway) {key place : ℕ} {e : Exchange} → key ≡ (found_key (key_id_of request) (keys_of g.keys)).place
-    → place ≡ inside (free_place engine (next_ticket g) g.table) → e ≡ get_or g.table place free
-    → record { last_ticket = g.last_ticket; key_place = key; key = get_or g.keys.list key unread; place = place; exchange = e }
-    ≡ admit_reads engine request g
-reads_by engine request g k p x = rw (x, p, k) refl
+    abbrev by_key : ℕ
+    by_key = 7 when (key_of key).retired otherwise 0
 
-module _ (engine : Engine) (g : Gateway) (size : length g.table ≡ table_size) (whole : length g.keys.list ≡ 16) (request info : List ℕ) where
-  abbrev was : Change
-  was = admit_reads engine request g
+    is_number : retire_refusal (key_with id (keys_of g.keys)) ≡ by_key
+    unfolding retire_refusal_at
+    is_number =
+        sym (retire_order id (keys_of g.keys))
+        ∙ rw (lt-leb (length (keys_of g.keys)) key_place there, key-at g.keys whole key_place there) refl
 
-  abbrev named : Bool
-  named = (found_key (key_id_of request) (keys_of g.keys)).there
+    -- the key refuses
+    pub retired_refused : (r : Refusal) → ◌≡◌ {A = Result (Unit {0}) Refusal} (Err r) (result_by by_key tt) → Gives engine g (retire id) g (of_retire (Err r)) []
+    retired_refused r e =
+        let does = retire_by by_key is_number in
+        record {
+          gateway = unless-refused by_key (gateway_retired id g) g (err_by by_key tt r e).1 ∙ does.gateway;
+          answer = ap of_retire e ∙ does.answer;
+          buffer = does.buffer;
+        }
 
-  abbrev n : ℕ
-  n = admit_number was named g.cap request info
+    -- the key is retired
+    pub retired_done : by_key ≡ 0 → Gives engine g (retire id) (with_key_at key_place (retired_state key) g) (of_retire (Ok tt)) []
+    retired_done none =
+        rw (get_d_any g.keys.list key_place unread blank_key (omega (arith, whole, key_inside g whole key_place there)))
+        (retire_by 0 (is_number ∙ none))
 
-  -- the number is admit's
-  is_number : n ≡ gateway_admit_number request info g
-  is_number =
-      sym (admit_order (registry_of g) (is_full g.table) request (length info)
-      ∙ rw (
-        ← found_refusal g.keys whole (key_id_of request) g.cap (fields_of request),
-        ← inside_passes engine (next_ticket g) is_free g.table size,
-      ) refl)
+-- info at the front of its buffer
+info_written : (request info : List ℕ) → head_length ≤ length request → info_length ≤ length info
+    → overwritten info 0 (info_bytes (overwritten (replicate head_length 0) 0 request)) ≡ with_front (info_of request) info
+unfolding ascii request_label
+info_written request info h l =
+    let size : length (info_of request) ≡ info_length = length-append request_label (take head_length request) ∙ rw (length-take head_length request) (omega arith) in
+    rw (info-of request h) (front_first (info_of request) info (omega (arith, size)))
 
-  -- where nothing refuses, the key is there, and so is a free place
-  key-there : n ≡ 0 → named ≡ true
-  key-there none =
-      let later = (none_of_both (request_refusal request) _ none).1 in
-      admit_there named (key_of was.key) g.cap (fields_of request) (none_of_both (key_refusal g.cap (given named (key_of was.key)) 0 (fields_of request)) _ later).0
+-- the answer of a refused admit
+admit_err : (n ticket : ℕ) (request : List ℕ) → (n ≡ 0 → ⊥) → ◌≡◌ {A = Result Admission AdmitRefusal} (Err (refusal_of_admit n)) (admit_answer n ticket request)
+admit_err zero ticket request h = absurd (h refl)
+admit_err (suc n) ticket request h = refl
 
-  place_there : n ≡ 0 → any_passes is_free g.table ≡ true
-  place_there none =
-      let later = (none_of_both (request_refusal request) _ none).1 in
-      let room = (none_of_both (key_refusal g.cap (given named (key_of was.key)) 0 (fields_of request)) _ later).1 in
-      sym (inside_passes engine (next_ticket g) is_free g.table size)
-      ∙ not-false (is_free was.exchange) (not-refused 8 (not (is_free was.exchange)) (14 when ltb (length info) info_length otherwise 0) room).0
+-- admit, by what the request, its key and the place and room decide
+module _ (engine : Engine) (g : Gateway) (request info : List ℕ) where
+  abbrev call : Call
+  call = admit request info
 
-  state_by : (m : ℕ) → m ≡ n
-      → changed (unless_refused m (admitted_change request was) was) g ≡ unless_refused m (gateway_admitted engine request g) g
-  state_by zero none =
-      rw (
-        changed_key g whole (key_id_of request) used_state (key-there (sym none)),
-        inside_found engine (next_ticket g) is_free g.table size (place_there (sym none)),
-      ) refl
-  state_by (suc m) none =
-      rw (set-get_or g.keys.list was.key_place unread, set-get_or g.table was.place free) refl
+  abbrev named : ℕ
+  named = place_of_key (key_id_of request) (keys_of g.keys)
 
-  fits_by : (m : ℕ) → Fits (unless_refused m (admitted_change request was) was)
-  fits_by zero = (key_below g whole (key_id_of request), inside_below (free_place engine (next_ticket g) g.table))
-  fits_by (suc m) = (key_below g whole (key_id_of request), inside_below (free_place engine (next_ticket g) g.table))
+  abbrev by_named : ℕ
+  by_named = key_refusal g.cap (keys_of g.keys) named (fields_of request)
 
-  pub admitted : Fits (unless_refused n (admitted_change request was) was)
-      × ((changed (unless_refused n (admitted_change request was) was) g ≡ (gateway_does engine g (admit request info)).state)
-      × ((of_admit (admit_answer n (next_ticket g) request) ≡ (gateway_does engine g (admit request info)).answer)
-      × (written n (info_of request) info ≡ (gateway_does engine g (admit request info)).buffer)))
+  abbrev by_room : ℕ
+  by_room = room_refusal (is_full g.table) (length info)
+
+  admit_by : (n : ℕ) → gateway_admit_number request info g ≡ n
+      → Gives engine g call (unless_refused n (gateway_admitted engine request g) g) (of_admit (admit_answer n (next_ticket g) request)) (written n (info_of request) info)
   unfolding gateway_does
-  admitted = rw (← is_number) (fits_by n, (state_by n refl, (refl, refl)))
+  admit_by n e = record { gateway = rw e refl; answer = rw e refl; buffer = rw e refl }
 
-  -- over what the code has read, and what it makes of that
-  pub admitted_by : (read : Change) (there : Bool) {change : Change} {told : AdmitAnswer} {bytes : List ℕ} → read ≡ was → there ≡ named
-      → change ≡ unless_refused (admit_number read there g.cap request info) (admitted_change request read) read
-      → told ≡ admit_answer (admit_number read there g.cap request info) (one_more 64 read.last_ticket.0) request
-      → bytes ≡ written (admit_number read there g.cap request info) (info_of request) info
-      → Fits change × ((changed change g ≡ (gateway_does engine g (admit request info)).state)
-      × ((of_admit told ≡ (gateway_does engine g (admit request info)).answer) × (bytes ≡ (gateway_does engine g (admit request info)).buffer)))
-  admitted_by read there r t c a b = rw (c, a, b, r, t) admitted
+  in_order : gateway_admit_number request info g ≡ (request_refusal request or_else by_named or_else by_room)
+  in_order = admit_order (registry_of g) (is_full g.table) request (length info)
+
+  -- a number that decides and refuses
+  refused_by : (n : ℕ) → gateway_admit_number request info g ≡ n → (r : Refusal) → (r ≡ refused n) × (n ≡ 0 → ⊥)
+      → Gives engine g call g (of_admit (Err (refusal_of_admit r.number))) info
+  refused_by n e r by =
+      let does = admit_by n e in
+      record {
+        gateway = unless-refused n (gateway_admitted engine request g) g by.1 ∙ does.gateway;
+        answer = ap of_admit (ap (λ (q : Refusal). Err (refusal_of_admit q.number)) by.0 ∙ admit_err n (next_ticket g) request by.1) ∙ does.answer;
+        buffer = unless-refused n (with_front (info_of request) info) info by.1 ∙ does.buffer;
+      }
+
+  pub request_refuses : (r : Refusal) → Err r ≡ result_by (request_refusal request) (fields_of request)
+      → Gives engine g call g (of_admit (Err (refusal_of_admit r.number))) info
+  request_refuses r e =
+      let by = err_by (request_refusal request) (fields_of request) r e in
+      refused_by (request_refusal request) (in_order ∙ first_number (request_refusal request) (by_named or_else by_room) by.1) r by
+
+  module _ (good : request_refusal request ≡ 0) where
+    pub key_refuses : (r : Refusal) → Err r ≡ result_by by_named named → Gives engine g call g (of_admit (Err (refusal_of_admit r.number))) info
+    key_refuses r e =
+        let by = err_by by_named named r e in
+        refused_by by_named (in_order ∙ rw good (first_number by_named by_room by.1)) r by
+
+    module _ (live : by_named ≡ 0) where
+      pub room_refuses : (place : ℕ) (r : Refusal) → Err r ≡ result_by by_room place → Gives engine g call g (of_admit (Err (refusal_of_admit r.number))) info
+      room_refuses place r e = let by = err_by by_room place r e in refused_by by_room (in_order ∙ rw (good, live) refl) r by
+
+      -- nothing refuses
+      pub admitted : length g.keys.list ≡ 16 → named < 16 → by_room ≡ 0
+          → Gives engine g call
+          (record {
+            last_ticket = record { 0 = next_ticket g };
+            cap = g.cap;
+            keys = record { list = set g.keys.list named (used_state (get_or g.keys.list named unread)); count = g.keys.count };
+            table = set g.table (free_place engine (next_ticket g) g.table) (asked (next_ticket g) (fields_of request));
+          })
+          (of_admit (Ok (admission (next_ticket g) (fields_of request) (length request))))
+          (overwritten info 0 (info_bytes (overwritten (replicate head_length 0) 0 request)))
+      admitted whole inside room =
+          let later = not-refused 8 (is_full g.table) (14 when ltb (length info) info_length otherwise 0) room in
+          let long = ltb-false (length info) info_length (not-refused 13 (ltb (length info) info_length) 0 later.1).0 in
+          let does = admit_by 0 (in_order ∙ rw (good, live) room) in
+          rw (get_d_any g.keys.list named unread blank_key (omega (arith, whole)), info_written request info (omega (arith, (accepted_request request good).1.0)) long) does

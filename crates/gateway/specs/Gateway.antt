@@ -1,8 +1,9 @@
 -- The gateway as it is stored, and what it does with each call: the contracts of the entries cite `gateway_does` and `fresh_gateway`. The
 -- theorems of `book` say of every list of calls that it gives what 01's book gives.
-use Rattle.std.specs.Prelude.{ℕ, List, [], length, set, replicate}
-use Rattle.wire.specs.Refusals.{unless_refused, written}
-use Rattle.keylist.specs.Layout.{Configuration, Result, good, bad}
+use Rattle.std.specs.Prelude.{ℕ, List, [], Result, Ok, Err, length, set, replicate}
+use Rattle.wire.specs.Refusals.{result_by, unless_refused, written}
+use Rattle.wire.specs.declared.refusal.Refusal.{Refusal}
+use Rattle.keylist.specs.Layout.{Configuration}
 use Rattle.request.specs.Request.{key_id_of, fields_of, info_of}
 use Rattle.exchange.specs.Exchange.{free, asked}
 use Rattle.exchange.specs.Steps.{Step, refusal, next, answer, buffer}
@@ -11,7 +12,7 @@ use Rattle.keys.specs.Keys.{key_with, retire_refusal, keys_of}
 use Rattle.keys.specs.Stored.{stored_keys, one_more, used_state, retired_state, changed_state, place_of_key}
 use Rattle.gateway.specs.declared.Gateway.{Gateway}
 use Rattle.gateway.specs.declared.table.Engine.{Engine}
-use Rattle.gateway.specs.Registry.{table_size, setup, admit_refusal, admit_answer, retire_answer, report}
+use Rattle.gateway.specs.Registry.{table_size, setup, admit_refusal, admit_answer, report}
 use Rattle.gateway.specs.Engines.{free_place, place_of_ticket, pending_with}
 use Rattle.gateway.specs.View.{registry_of, pending_in, is_full}
 use Rattle.gateway.specs.Calls.{Call, admit, retire, on_ticket, reporting, of_admit, of_retire, of_step, of_report, Done}
@@ -21,9 +22,9 @@ abbrev pub empty_gateway : ℕ → Keys → Gateway
 empty_gateway cap keys = record { last_ticket = record { 0 = 0 }; cap = cap; keys = keys; table = replicate table_size free }
 
 -- after setup; a refused one hands back a gateway without keys, cap 1, last ticket 0
-abbrev pub gateway_from : ℕ → Result (List Configuration) → Gateway
-gateway_from cap (good cs) = empty_gateway cap (stored_keys cs)
-gateway_from cap (bad r) = empty_gateway 1 (stored_keys [])
+abbrev pub gateway_from : ℕ → Result (List Configuration) Refusal → Gateway
+gateway_from cap (Ok cs) = empty_gateway cap (stored_keys cs)
+gateway_from cap (Err r) = empty_gateway 1 (stored_keys [])
 
 abbrev pub fresh_gateway : List ℕ → ℕ → Gateway
 fresh_gateway list cap = gateway_from cap (setup list cap)
@@ -82,7 +83,7 @@ gateway_does engine g (admit request info) =
     }
 gateway_does engine g (retire id) =
     record {
-      answer = of_retire (retire_answer (gateway_retire_number id g));
+      answer = of_retire (result_by (gateway_retire_number id g) tt);
       buffer = [];
       state = unless_refused (gateway_retire_number id g) (gateway_retired id g) g;
     }

@@ -1,19 +1,17 @@
 -- What gateway and book share: cap, last ticket and keys, and 01's rules for the calls that look at them: setup, admit, retire, report.
-use Rattle.std.specs.Prelude.{ℕ, zero, suc, Bool, not, List, [], map, eqb, leb, ltb, length}
+use Rattle.std.specs.Prelude.{ℕ, zero, suc, Bool, not, List, [], map, Result, Ok, Err, eqb, leb, ltb, length}
 use Rattle.wire.specs.Tests.{pick, ◌and◌}
 use Rattle.wire.specs.Search.{is_none, is_some_and}
 use Rattle.wire.specs.Refusals.{◌when◌otherwise◌, refused}
+use Rattle.wire.specs.declared.refusal.Refusal.{Refusal}
 use Rattle.wire.specs.Texts.{head_length, info_length, longest_request}
 use Rattle.algorithms.specs.Sizes.{known_kem, shortest_request}
-use Rattle.keylist.specs.Layout.{Configuration, good, bad, parse, Result}
+use Rattle.keylist.specs.Layout.{Configuration, parse}
 use Rattle.request.specs.declared.Request.{Request}
 use Rattle.request.specs.Request.{key_id_of, kem_of, kdf_of, aead_of, fields_of}
 use Rattle.keys.specs.Keys.{Key, fresh_key, key_with, offers, stored_reports}
-use Rattle.gateway.specs.declared.SetupAnswer.{SetupAnswer}
 use Rattle.gateway.specs.declared.admission.Admission.{Admission}
 use Rattle.gateway.specs.declared.admission.AdmitRefusal.{AdmitRefusal}
-use Rattle.gateway.specs.declared.AdmitAnswer.{AdmitAnswer}
-use Rattle.gateway.specs.declared.RetireAnswer.{RetireAnswer}
 use Rattle.gateway.specs.declared.Report.{Report}
 
 -- "a table of 128 pending exchanges"
@@ -34,22 +32,22 @@ abbrev pub cap_holds : ℕ → Bool
 cap_holds cap = leb 1 cap and leb cap most_uses
 
 -- 01, "Order", setup: what is wrong with the list, then 17; else the configurations
-abbrev pub with_cap : ℕ → Result (List Configuration) → Result (List Configuration)
-with_cap cap (good cs) = pick (cap_holds cap) (good cs) (bad (refused 17))
-with_cap cap (bad r) = bad r
+abbrev pub with_cap : ℕ → Result (List Configuration) Refusal → Result (List Configuration) Refusal
+with_cap cap (Ok cs) = pick (cap_holds cap) (Ok cs) (Err (refused 17))
+with_cap cap (Err r) = Err r
 
-abbrev pub setup : List ℕ → ℕ → Result (List Configuration)
+abbrev pub setup : List ℕ → ℕ → Result (List Configuration) Refusal
 setup list cap = with_cap cap (parse list)
 
 -- the number of keys, or the refusal
-abbrev pub setup_answer : Result (List Configuration) → SetupAnswer
-setup_answer (good cs) = SetupAnswer.Ready (length cs)
-setup_answer (bad r) = SetupAnswer.Refused r
+abbrev pub setup_answer : Result (List Configuration) Refusal → Result ℕ Refusal
+setup_answer (Ok cs) = Ok (length cs)
+setup_answer (Err r) = Err r
 
 -- at first counts and last ticket are 0 and no key is retired; after a refused setup there are no keys and the cap is 1
-abbrev pub registry_from : ℕ → Result (List Configuration) → Registry
-registry_from cap (good cs) = record { cap = cap; last_ticket = 0; keys = map fresh_key cs }
-registry_from cap (bad r) = record { cap = 1; last_ticket = 0; keys = [] }
+abbrev pub registry_from : ℕ → Result (List Configuration) Refusal → Registry
+registry_from cap (Ok cs) = record { cap = cap; last_ticket = 0; keys = map fresh_key cs }
+registry_from cap (Err r) = record { cap = 1; last_ticket = 0; keys = [] }
 
 abbrev pub fresh_registry : List ℕ → ℕ → Registry
 fresh_registry list cap = registry_from cap (setup list cap)
@@ -100,14 +98,9 @@ admission ticket request size =
     }
 
 -- the answer of admit, by the refusal number
-abbrev pub admit_answer : ℕ → ℕ → List ℕ → AdmitAnswer
-admit_answer zero ticket request = AdmitAnswer.Admitted (admission ticket (fields_of request) (length request))
-admit_answer (suc n) ticket request = AdmitAnswer.Refused (refusal_of_admit (suc n))
-
--- the answer of retire, by the refusal number
-abbrev pub retire_answer : ℕ → RetireAnswer
-retire_answer zero = RetireAnswer.Retired
-retire_answer (suc n) = RetireAnswer.Refused (refused (suc n))
+abbrev pub admit_answer : ℕ → ℕ → List ℕ → Result Admission AdmitRefusal
+admit_answer zero ticket request = Ok (admission ticket (fields_of request) (length request))
+admit_answer (suc n) ticket request = Err (refusal_of_admit (suc n))
 
 -- the report: last ticket, number pending, and the keys in list order
 abbrev pub report : Registry → ℕ → Report

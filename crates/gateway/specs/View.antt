@@ -1,6 +1,7 @@
 -- What a gateway holds, as 01 tells of it: cap, last ticket and keys, and the pending exchanges, table places aside.
+use Rattle.std.specs.List.{list_any}
 use Rattle.std.specs.Prelude.{Bool, not, List}
-use Rattle.wire.specs.Search.{filtered, any_passes}
+use Rattle.wire.specs.Search.{filtered}
 use Rattle.exchange.specs.declared.Exchange.{Exchange}
 use Rattle.exchange.specs.Exchange.{is_free}
 use Rattle.keys.specs.Keys.{keys_of}
@@ -16,4 +17,4 @@ pending_in table = filtered (λ e. not (is_free e)) table
 
 -- no place is free
 abbrev pub is_full : List Exchange → Bool
-is_full table = not (any_passes is_free table)
+is_full table = not (list_any is_free table)

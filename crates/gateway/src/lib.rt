@@ -1,30 +1,35 @@
-// The gateway (01, "What the box does"): setup and the six calls. Each call takes the gateway and answers what changes of it, with its
-// own answer; a refusal changes nothing. Every entry has an answer for every gateway and every argument.
+// The gateway (01, "What the box does"): setup and the six calls, which change it in place; a refusal changes nothing. Every entry has an answer
+// for every gateway and every argument.
 #![tactic(auto)]
 
-ghost use Rattle.std.specs.Prelude.{◌≡◌, []};
+ghost use Rattle.std.specs.Prelude.{◌≡◌, ◌<◌, IfOk};
+ghost use Rattle.wire.specs.Refusals.{result_by};
 ghost use Rattle.exchange.specs.Steps.{step};
-ghost use Rattle.keys.specs.Stored.{stored_keys};
-ghost use Rattle.gateway.specs.declared.SetupAnswer.{SetupAnswer};
+ghost use Rattle.keylist.specs.Answers.{skipped_in};
+ghost use Rattle.keylist.specs.Layout.{most_configurations};
+ghost use Rattle.keys.specs.Keys.{keys_of};
+ghost use Rattle.keys.specs.Stored.{place_of_key};
+ghost use Rattle.keys.specs.Helpers.{key_refusal, keys_of_parsed};
 ghost use Rattle.gateway.specs.declared.table.Engine.{Engine};
-ghost use Rattle.gateway.specs.Registry.{setup, setup_answer};
+ghost use Rattle.gateway.specs.Registry.{setup, setup_answer, table_size};
+ghost use Rattle.gateway.specs.Engines.{free_place};
+ghost use Rattle.gateway.specs.View.{is_full};
 ghost use Rattle.gateway.specs.Gateway.{empty_gateway, fresh_gateway, gateway_does};
-ghost use Rattle.gateway.specs.Change.{changed, Fits};
-ghost use Rattle.gateway.specs.Helpers.{report_from};
+ghost use Rattle.gateway.specs.Helpers.{room_refusal};
 ghost use Rattle.gateway.specs.Calls.{admit, retire, on_ticket, reporting, of_admit, of_retire, of_step, of_report};
 
 use crate::admission::{Admission, AdmitRefusal, next_ticket};
-use crate::change::{Change, nothing};
 use crate::table::{Engine, TABLE_SIZE, count_pending, find};
 use exchange::{Exchange, Move, StepAnswer, Ticket};
+use keylist::KeyId;
 use keylist::check::MOST_CONFIGURATIONS;
-use keylist::{Checked, KeyId};
-use keys::{KeyReport, Keys};
-use wire::bytes::byte_at;
-use wire::refusal::Refusal;
+use keys::{KeyReport, Keys, KeysRead};
+use request::Request;
+use wire::bytes::overwrite;
+use wire::refusal::{Reason, Refusal};
+use wire::texts;
 
 pub mod admission;
-pub mod change;
 pub mod table;
 
 // The uses of a key that setup may allow are 1 up to this number.
@@ -40,25 +45,6 @@ pub struct Gateway {
     pub table: [Exchange; TABLE_SIZE],
 }
 
-// The number of keys, or the refusal.
-#[derive(Clone, Copy)]
-pub enum SetupAnswer {
-    Ready(usize),
-    Refused(Refusal),
-}
-
-#[derive(Clone, Copy)]
-pub enum AdmitAnswer {
-    Admitted(Admission),
-    Refused(AdmitRefusal),
-}
-
-#[derive(Clone, Copy)]
-pub enum RetireAnswer {
-    Retired,
-    Refused(Refusal),
-}
-
 // Last ticket, number pending, and the keys in list order, first in `keys`.
 #[derive(Clone, Copy)]
 pub struct Report {
@@ -68,30 +54,11 @@ pub struct Report {
     pub keys: [KeyReport; MOST_CONFIGURATIONS],
 }
 
-// What a call changes, with the answer.
-#[derive(Clone, Copy)]
-pub struct AdmitChange {
-    pub change: Change,
-    pub answer: AdmitAnswer,
-}
-
-#[derive(Clone, Copy)]
-pub struct RetireChange {
-    pub change: Change,
-    pub answer: RetireAnswer,
-}
-
-#[derive(Clone, Copy)]
-pub struct StepChange {
-    pub change: Change,
-    pub answer: StepAnswer,
-}
-
-// The gateway after setup, with the answer.
+// The gateway after setup, with the number of keys or the refusal.
 #[derive(Clone, Copy)]
 pub struct AfterSetup {
     pub gateway: Gateway,
-    pub answer: SetupAnswer,
+    pub answer: Result<usize, Refusal>,
 }
 
 impl Gateway {
@@ -100,138 +67,138 @@ impl Gateway {
         ensures gateway { result.gateway ≡ fresh_gateway list.now cap }
         ensures answer { result.answer ≡ setup_answer (setup list.now cap) }
     {
-        let read = Keys::read(list);
-        let checked = read.checked;
-        match checked {
-            Checked::Good(count, _) => {
-                if cap < 1 {
-                    return refused_setup(Refusal::of(Refusal::CAP_OUT_OF_RANGE));
-                }
-                if MOST_USES < cap {
-                    return refused_setup(Refusal::of(Refusal::CAP_OUT_OF_RANGE));
-                }
-                let keys = read.keys;
-                AfterSetup {
-                    gateway: empty(cap as u32, keys),
-                    answer: SetupAnswer::Ready(count),
-                }
-            }
-            Checked::Refused(refusal) => refused_setup(refusal),
+        match read(list, cap) {
+            Ok(read) => AfterSetup {
+                gateway: empty(cap as u32, read.keys),
+                answer: Ok(read.counts.read),
+            },
+            Err(refusal) => AfterSetup {
+                gateway: empty(1, Keys::none()),
+                answer: Err(refusal),
+            },
         }
     }
 
     // Admit, by an engine: counts the use, gives the next ticket and writes info at the front of its buffer.
-    pub fn admit(self, engine: Engine, request: &[u8], info: &mut [u8]) -> AdmitChange
-        ensures fits { Fits result.change }
-        ensures gateway { changed result.change self ≡ (gateway_does engine self (admit request.now info.old)).state }
-        ensures answer { of_admit result.answer ≡ (gateway_does engine self (admit request.now info.old)).answer }
-        ensures buffer { info.new ≡ (gateway_does engine self (admit request.now info.old)).buffer }
+    pub fn admit(
+        &mut self,
+        engine: Engine,
+        request: &[u8],
+        info: &mut [u8],
+    ) -> Result<Admission, AdmitRefusal>
+        ensures gateway { self.new ≡ (gateway_does engine self.old (admit request.now info.old)).state }
+        ensures answer { of_admit result ≡ (gateway_does engine self.old (admit request.now info.old)).answer }
+        ensures buffer { info.new ≡ (gateway_does engine self.old (admit request.now info.old)).buffer }
     {
-        let keys = self.keys;
-        let key = keys.find(KeyId(byte_at(request, 0)));
-        let key_place = key.place;
-        let last_ticket = self.last_ticket;
-        let next = next_ticket(last_ticket);
-        let table = self.table;
-        let found = find(table, engine, 0, next.0);
-        let exchange = found.exchange;
-        let was = Change {
-            last_ticket,
-            key_place,
-            key: keys.list[key_place],
-            place: found.place,
-            exchange,
-        };
-        change::admit(was, key.there, self.cap, request, info)
+        let fields = request::read(request)?;
+        let key = self.key_for(&fields)?;
+        let ticket = next_ticket(self.last_ticket);
+        let place = self.place_for(engine, ticket, info.len())?;
+        overwrite(info, 0, &request::info(request));
+        self.last_ticket = ticket;
+        self.keys.list[key].use_once();
+        self.table[place] = Exchange::asked(ticket, fields);
+        Ok(Admission::of(ticket, fields, request.len()))
     }
 
-    // A call on a ticket, by an engine, with the bytes that it brings, as respond does: enc and nonce are written at the front of the salt buffer.
+    // A call on a ticket, by an engine, with the bytes that it brings, as respond does, and none where the others bring none: enc and nonce are written
+    // at the front of the salt buffer.
     pub fn step(
-        self,
+        &mut self,
         engine: Engine,
         ticket: Ticket,
         kind: Move,
         enc: &[u8],
         nonce: &[u8],
         salt: &mut [u8],
-    ) -> StepChange
-        ensures fits { Fits result.change }
-        ensures gateway { changed result.change self ≡ (gateway_does engine self
+    ) -> Result<StepAnswer, Refusal>
+        ensures gateway { self.new ≡ (gateway_does engine self.old
             (on_ticket ticket.0 (step kind enc.now nonce.now salt.old))).state }
-        ensures answer { of_step result.answer ≡ (gateway_does engine self
+        ensures answer { of_step result ≡ (gateway_does engine self.old
             (on_ticket ticket.0 (step kind enc.now nonce.now salt.old))).answer }
-        ensures buffer { salt.new ≡ (gateway_does engine self
+        ensures buffer { salt.new ≡ (gateway_does engine self.old
             (on_ticket ticket.0 (step kind enc.now nonce.now salt.old))).buffer }
     {
-        let table = self.table;
-        let found = find(table, engine, ticket.0, ticket.0);
-        change::step(nothing(self), found, ticket, kind, enc, nonce, salt)
+        let place = find(&self.table, engine, ticket.0, ticket.0);
+        if place == TABLE_SIZE {
+            return Err(Refusal::from(Reason::NotPending));
+        }
+        self.table[place].step(ticket, kind, enc, nonce, salt)
     }
 
     // Retire: later admissions refuse the key; pending exchanges go on. The engines do not differ in it.
-    pub fn retire(self, id: KeyId) -> RetireChange
-        ensures fits { Fits result.change }
-        ensures gateway { (engine : Engine) → changed result.change self ≡ (gateway_does engine self (retire id.0)).state }
-        ensures answer { (engine : Engine) → of_retire result.answer ≡ (gateway_does engine self (retire id.0)).answer }
+    pub fn retire(&mut self, id: KeyId) -> Result<(), Refusal>
+        ensures gateway { (engine : Engine) → self.new ≡ (gateway_does engine self.old (retire id.0)).state }
+        ensures answer { (engine : Engine) → of_retire result ≡ (gateway_does engine self.old (retire id.0)).answer }
     {
-        let keys = self.keys;
-        let key = keys.find(id);
-        let key_place = key.place;
-        let done = change::retire(keys.list[key_place], key.there);
-        let state = done.key;
-        let answer = done.answer;
-        let mut change = nothing(self);
-        change.key_place = key_place;
-        change.key = state;
-        RetireChange { change, answer }
+        let place = self.keys.find(id).ok_or(Reason::NoSuchKey)?;
+        let key = &mut self.keys.list[place];
+        key.retire_refusal()?;
+        key.retire();
+        Ok(())
     }
 
     // Report: last ticket, number pending, and each key's count and retirement. The gateway is as it was.
-    pub fn report(self) -> Report
-        ensures gateway { (engine : Engine) → self ≡ (gateway_does engine self reporting).state }
-        ensures answer { (engine : Engine) → of_report result ≡ (gateway_does engine self reporting).answer }
+    pub fn report(&self) -> Report
+        ensures gateway { (engine : Engine) → self.now ≡ (gateway_does engine self.now reporting).state }
+        ensures answer { (engine : Engine) → of_report result ≡ (gateway_does engine self.now reporting).answer }
     {
-        let last_ticket = self.last_ticket;
-        let keys = self.keys;
-        let table = self.table;
-        let pending = count_pending(table);
-        report_of(last_ticket, pending, keys)
+        Report {
+            last_ticket: self.last_ticket,
+            pending: count_pending(&self.table),
+            key_count: self.keys.number(),
+            keys: self.keys.report(),
+        }
+    }
+
+    // The place of the key that a request names, or why it is not admitted by that key.
+    fn key_for(&self, request: &Request) -> Result<usize, Refusal>
+        ensures value { result ≡ result_by
+            (key_refusal self.now.cap (keys_of self.now.keys) (place_of_key request.now.key_id.0 (keys_of self.now.keys)) request.now)
+            (place_of_key request.now.key_id.0 (keys_of self.now.keys)) }
+        ensures bound { IfOk result (λ place. place < most_configurations) }
+    {
+        let place = self.keys.find(request.key_id).ok_or(Reason::NoSuchKey)?;
+        self.keys.list[place].refusal(self.cap, request)?;
+        Ok(place)
+    }
+
+    // A free place for an exchange, where there is one and info has room.
+    fn place_for(&self, engine: Engine, ticket: Ticket, room: usize) -> Result<usize, Refusal>
+        ensures value { result ≡ result_by (room_refusal (is_full self.now.table) room)
+            (free_place engine ticket.0 self.now.table) }
+        ensures bound { IfOk result (λ place. place < table_size) }
+    {
+        let place = find(&self.table, engine, 0, ticket.0);
+        if place == TABLE_SIZE {
+            return Err(Refusal::from(Reason::TableFull));
+        }
+        if room < texts::INFO_LENGTH {
+            return Err(Refusal::from(Reason::NoRoom));
+        }
+        Ok(place)
     }
 }
 
-// The report of a last ticket, a number pending and keys: a host that counts in its own memory needs no copy of the table.
-pub fn report_of(last_ticket: Ticket, pending: usize, keys: Keys) -> Report
-    ensures { result ≡ report_from last_ticket pending keys }
+// The keys of a list, or what is wrong with it or with the cap.
+fn read(list: &[u8], cap: u64) -> Result<KeysRead, Refusal>
+    ensures { result ≡ keys_of_parsed (setup list.now cap) (skipped_in list.now) }
 {
-    let reports = keys.report();
-    Report {
-        last_ticket,
-        pending,
-        key_count: keys.number(),
-        keys: reports,
+    let read = Keys::read(list)?;
+    if cap < 1 || MOST_USES < cap {
+        return Err(Refusal::from(Reason::CapOutOfRange));
     }
+    Ok(read)
 }
 
 // A gateway of these keys, with all places free.
 fn empty(cap: u32, keys: Keys) -> Gateway
     ensures { result ≡ empty_gateway cap keys }
 {
-    let table = [Exchange::free(); TABLE_SIZE];
     Gateway {
         last_ticket: Ticket(0),
         cap,
         keys,
-        table,
-    }
-}
-
-// A gateway without keys, cap 1, with the refusal.
-fn refused_setup(refusal: Refusal) -> AfterSetup
-    ensures gateway { result.gateway ≡ empty_gateway 1 (stored_keys []) }
-    ensures answer { result.answer ≡ SetupAnswer.Refused refusal }
-{
-    AfterSetup {
-        gateway: empty(1, Keys::none()),
-        answer: SetupAnswer::Refused(refusal),
+        table: [Exchange::free(); TABLE_SIZE],
     }
 }

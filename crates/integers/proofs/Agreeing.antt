@@ -8,13 +8,13 @@ use lib.ListN.{length, take, drop}
 use lib.Seq.{get_or-take, take-take}
 use Rattle.wire.specs.Bytes.{byte_at, part}
 use Rattle.wire.proofs.Agreeing.{Agree, drop-take, one}
-use Rattle.integers.specs.Integers.{integer_at, size_of, integer_value}
-use Rattle.integers.specs.declared.Integer.{Integer}
+use Rattle.std.specs.Prelude.{None}
+use Rattle.integers.specs.Integers.{integer_at, size_of, integer_value, whole}
 use Rattle.integers.proofs.Values.{cut_is, is_cut, is_whole, size_least, whole_is}
 
 -- one that lies whole in the first list, and in the second too
-pub integer_in : (a b : List ℕ) (n at value end : ℕ) → take n a ≡ take n b → end ≤ n → end ≤ length b → integer_at a at ≡ Integer.Whole value end
-    → integer_at b at ≡ Integer.Whole value end
+pub integer_in : (a b : List ℕ) (n at value end : ℕ) → take n a ≡ take n b → end ≤ n → end ≤ length b → integer_at a at ≡ whole value end
+    → integer_at b at ≡ whole value end
 integer_in a b n at value end front h k e =
     let w = whole_is a at value end e in
     let least = size_least (byte_at a at) in
@@ -31,17 +31,17 @@ integer_in a b n at value end front h k e =
     let values : integer_value b at ≡ integer_value a at = rw (first, rest) in
     let ends : at + size_of (byte_at b at) ≡ end = ap (λ (k : ℕ). at + k) size ∙ sym w.1 in
     sym (is_whole b at (omega (arith, ends)))
-    ∙ ap (λ (v : ℕ). Integer.Whole v (at + size_of (byte_at b at))) (values ∙ sym w.0)
-    ∙ ap (Integer.Whole value) ends
+    ∙ ap (λ (v : ℕ). whole v (at + size_of (byte_at b at))) (values ∙ sym w.0)
+    ∙ ap (whole value) ends
 
 module _ {n : ℕ} {a b : List ℕ} (agree : Agree n a b) (at : ℕ) where
   -- one that lies whole
-  pub same_integer : (value end : ℕ) → integer_at a at ≡ Integer.Whole value end → end ≤ n → integer_at b at ≡ Integer.Whole value end
+  pub same_integer : (value end : ℕ) → integer_at a at ≡ whole value end → end ≤ n → integer_at b at ≡ whole value end
   same_integer value end e h =
       integer_in a b n at value end agree.front h (omega (arith, whole_is a at value end e, agree.same)) e
 
   -- one that is cut
-  pub same_cut : integer_at a at ≡ Integer.Cut → at < n → integer_at b at ≡ Integer.Cut
+  pub same_cut : integer_at a at ≡ None → at < n → integer_at b at ≡ None
   same_cut e h =
       let size : size_of (byte_at b at) ≡ size_of (byte_at a at) = ap size_of (sym (one agree at h)) in
       sym (is_cut b at (omega (arith, cut_is a at e, size, agree.same)))

@@ -10,15 +10,15 @@ use borrow.Author.Tests.{ltb-true, ltb-false}
 use lib.ListN.{length, drop, length-take, get_or-eq_default}
 use lib.Seq.{get_or-take, get_or-drop}
 use lib.Pow.{pow_mono}
+use Rattle.std.specs.Slice.Scan.{big_endian}
 use Rattle.wire.specs.Bytes.{byte_at, part}
 use Rattle.wire.proofs.Booleans.{either}
-use Rattle.integers.specs.Integers.{size_of, big_endian, integer_at}
+use Rattle.integers.specs.Integers.{size_of, integer_at}
 use Rattle.integers.specs.Stated.{IntegerBounds, IntegerExamples}
 use Rattle.integers.proofs.Values.{grown, size_least, size_most, whole_is}
 
 -- bytes behind a number add eight bits each
 bits : (n before : ℕ) (bytes : List ℕ) → n < 2 ^ before → ((i : ℕ) → byte_at bytes i < 256) → big_endian n bytes < 2 ^ (before + 8 * length bytes)
-unfolding big_endian
 bits n before [] h k = let e : before + 8 * 0 ≡ before = omega arith in rw e h
 bits n before (byte ∷ bytes) h k =
     let e : before + 8 * suc (length bytes) ≡ (before + 8) + 8 * length bytes = omega arith in
@@ -50,7 +50,7 @@ integer_bounds =
     }
 
 pub integer_examples : IntegerExamples
-unfolding integer_at big_endian
+unfolding integer_at
 integer_examples =
     record {
       eight = refl;

@@ -1,17 +1,17 @@
 // RFC 9000's integers (section 16): 1, 2, 4 or 8 bytes, read at an offset of a slice.
 #![tactic(auto)]
 
-ghost use Rattle.std.specs.Prelude.{◌≡◌};
+ghost use Rattle.std.specs.Prelude.{◌≡◌, ◌≤◌, length, IfSome};
 ghost use Rattle.integers.specs.Integers.{size_of, integer_at};
 
-// The value and where the integer ends, or that it does not lie whole in the bytes.
-#[derive(Clone, Copy)]
-pub enum Integer {
-    Whole(u64, usize),
-    Cut,
+// An integer that was read: its value, and where it ends.
+#[derive(Clone, Copy, Debug, PartialEq, Eq)]
+pub struct Integer {
+    pub value: u64,
+    pub end: usize,
 }
 
-// How many bytes the integer has that begins with this one.
+// How many bytes the integer has that begins with this one. By tests: `1 << (first / 64)` made reading a message a tenth slower.
 fn size_of(first: u8) -> usize
     ensures { result ≡ size_of first }
 {
@@ -27,23 +27,17 @@ fn size_of(first: u8) -> usize
     8
 }
 
-// The integer at an offset. Any size is accepted, whether the value needs it or not.
-pub fn read(bytes: &[u8], at: usize) -> Integer
-    ensures { result ≡ integer_at bytes.now at }
+// The integer at an offset; none where it does not lie whole in the bytes. Any size is accepted, whether the value needs it or not.
+pub fn read(bytes: &[u8], at: usize) -> Option<Integer>
+    ensures value { result ≡ integer_at bytes.now at }
+    ensures inside { IfSome result (λ integer. integer.end ≤ length bytes.now) }
 {
-    if bytes.len() <= at {
-        return Integer::Cut;
+    let first = *bytes.get(at)?;
+    let end = at + size_of(first);
+    let rest = bytes.get(at + 1..end)?;
+    let mut value = (first % 64) as u64;
+    for byte in rest {
+        value = value * 256 + (*byte as u64);
     }
-    let size = size_of(bytes[at]);
-    if bytes.len() - at < size {
-        return Integer::Cut;
-    }
-    let end = at + size;
-    let mut value = (bytes[at] % 64) as u64;
-    let mut place = at + 1;
-    while place < end {
-        value = value * 256 + (bytes[place] as u64);
-        place += 1;
-    }
-    Integer::Whole(value, end)
+    Some(Integer { value, end })
 }

@@ -4,7 +4,7 @@ use mathlib.Core.Path.{refl}
 use mathlib.Core.List.{flatten}
 use Rattle.algorithms.specs.Sizes.{known_kem, public_key_length}
 use Rattle.algorithms.specs.Table.{row_of, table}
-use Rattle.wire.specs.Search.{any_passes, filtered, find, first_place}
+use Rattle.wire.specs.Search.{filtered}
 use Rattle.wire.specs.Hex.{hex}
 use Rattle.wire.specs.Texts.{ascii, request_label}
 use Rattle.keylist.specs.Answers.{starts_from}
@@ -12,7 +12,7 @@ use Rattle.keylist.specs.Edges.{FaultEdges, ListEdges, SkippingEdges, edge_list}
 use Rattle.keylist.specs.Layout.{configuration_at, fault_of, is_skipped, pairs_at, parse, parse_from}
 
 pub list_edges : ListEdges
-unfolding ascii edge_list hex parse parse_from fault_of is_skipped configuration_at pairs_at known_kem public_key_length row_of table first_place any_passes request_label
+unfolding ascii edge_list hex parse parse_from fault_of is_skipped configuration_at pairs_at known_kem public_key_length row_of table request_label
 list_edges =
     record {
       bytes = refl;
@@ -23,7 +23,7 @@ list_edges =
     }
 
 pub skipping_edges : SkippingEdges
-unfolding edge_list hex parse parse_from fault_of is_skipped configuration_at pairs_at known_kem public_key_length row_of table first_place any_passes filtered find starts_from flatten
+unfolding edge_list hex parse parse_from fault_of is_skipped configuration_at pairs_at known_kem public_key_length row_of table filtered starts_from flatten
 skipping_edges =
     record {
       in_front = refl;
@@ -38,7 +38,7 @@ skipping_edges =
     }
 
 pub fault_edges : FaultEdges
-unfolding edge_list hex parse parse_from fault_of is_skipped configuration_at pairs_at known_kem public_key_length row_of table first_place any_passes filtered find starts_from flatten
+unfolding edge_list hex parse parse_from fault_of is_skipped configuration_at pairs_at known_kem public_key_length row_of table filtered starts_from flatten
 fault_edges =
     record {
       past_end = refl;

@@ -4,6 +4,7 @@ use mathlib.Core.Path.{◌≡◌, refl, sym, subst, ap, ◌∙◌}
 use mathlib.Core.Bool.{true, false}
 use mathlib.Core.List.{List, [], ◌∷◌, ◌++◌}
 use mathlib.Core.Logic.{◌↔◌, ◌⊎◌, inl, inr, ⊎_elim}
+use Rattle.std.specs.Prelude.{Result, Ok, Err, IsSomeAnd}
 use Prim.Native.Nat.{ℕ, zero, suc, ◌+◌, ◌≤◌, ◌<◌}
 use native.Mathlib.Nat.{eq-or-lt_of_le}
 use native.Mathlib.Omega.{arith}
@@ -11,27 +12,27 @@ use borrow.Author.Tests.{leb-true, leb-false, ltb-true, ltb-false, eq-eqb, eqb-t
 use lib.Dec.{eqb, leb, ltb}
 use lib.ListN.{length}
 use Rattle.wire.specs.Refusals.{refused_at}
-use Rattle.wire.specs.Search.{among, any_passes}
+use Rattle.wire.specs.Search.{among}
 use Rattle.wire.specs.declared.refusal.Refusal.{Refusal}
 use Rattle.wire.proofs.Booleans.{either, true_or_false}
 use Rattle.algorithms.specs.Sizes.{public_key_length}
 use Rattle.keylist.specs.Before.{layout_holds, parse_before, parse_before_from}
 use Rattle.keylist.specs.Faults.{StandsAtFault, none_at_all, too_many, past_end, ends_before_pairs, pair_length, disagrees, id_twice, IsReadable, NoneBadBefore, PlaceOfTheField, ReadAsBefore, start_behind}
-use Rattle.keylist.specs.Layout.{Configuration, good, bad, bytes_before_pairs, configuration_at, fault_of, field_at_fault, followed_by, is_skipped, is_whole, key_end, key_id_at, kem_at, length_at, most_configurations, next_start, pair_bytes_at, pair_bytes_hold, parse, parse_from, refused_for, Result}
+use Rattle.keylist.specs.Layout.{Configuration, bytes_before_pairs, configuration_at, fault_of, field_at_fault, followed_by, is_skipped, is_whole, key_end, key_id_at, kem_at, length_at, most_configurations, next_start, pair_bytes_at, pair_bytes_hold, parse, parse_from, refused_for}
 use Rattle.keylist.proofs.LayoutLaws.{Holds, holds, held_not_skipped, fault_before_pairs, fault_by_id, fault_cut, fault_disagrees, fault_pairs, fault_short, fault_skipped, fault_too_many, good_layout, known_by_length, no_fault, pair-bytes, skips_not_known, skips_not_short}
 use Rattle.keylist.proofs.Parsing.{followed, good-at, good_at, no_refusal, parse_bad, parse_end, parse_fault, parse_more, parse_skip, parse_too_many}
 
 -- two readings are good alike
-abbrev Alike : Result (List Configuration) → Result (List Configuration) → Type 0
-Alike p q = (cs : List Configuration) → (p ≡ good cs) ↔ (q ≡ good cs)
+abbrev Alike : Result (List Configuration) Refusal → Result (List Configuration) Refusal → Type 0
+Alike p q = (cs : List Configuration) → (p ≡ Ok cs) ↔ (q ≡ Ok cs)
 
-both_bad : {r s : Refusal} → Alike (bad r) (bad s)
+both_bad : {r s : Refusal} → Alike (Err r) (Err s)
 both_bad cs = (λ e. no_refusal e, λ e. no_refusal e)
 
-behind_one : (c : Configuration) (p q : Result (List Configuration)) → Alike p q → Alike (followed_by c p) (followed_by c q)
+behind_one : (c : Configuration) (p q : Result (List Configuration) Refusal) → Alike p q → Alike (followed_by c p) (followed_by c q)
 behind_one c p q same cs = (
-  λ e. let (rest, read, whole) = followed c p cs e in ap (followed_by c) ((same rest).0 read) ∙ ap good (sym whole),
-  λ e. let (rest, read, whole) = followed c q cs e in ap (followed_by c) ((same rest).1 read) ∙ ap good (sym whole),
+  λ e. let (rest, read, whole) = followed c p cs e in ap (followed_by c) ((same rest).0 read) ∙ ap Ok (sym whole),
+  λ e. let (rest, read, whole) = followed c q cs e in ap (followed_by c) ((same rest).1 read) ∙ ap Ok (sym whole),
 )
 
 module _ (bytes : List ℕ) where
@@ -60,23 +61,20 @@ read_as_before [] cs = both_bad cs
 read_as_before (byte ∷ bytes) cs = same_from (byte ∷ bytes) most_configurations [] 0 cs
 
 -- a refusal behind a first configuration
-refused_behind : (c : Configuration) (p : Result (List Configuration)) (r : Refusal) → followed_by c p ≡ bad r → p ≡ bad r
-refused_behind c (good cs) r e = no_refusal (sym e)
-refused_behind c (bad s) r e = e
+refused_behind : (c : Configuration) (p : Result (List Configuration) Refusal) (r : Refusal) → followed_by c p ≡ Err r → p ≡ Err r
+refused_behind c (Ok cs) r e = no_refusal (sym e)
+refused_behind c (Err s) r e = e
 
 -- an element of a list with one more at its end
 taken_before : (taken : List ℕ) (x n : ℕ) → among (taken ++ x ∷ []) n ≡ true → (among taken n ≡ true) ⊎ (x ≡ n)
-unfolding any_passes
 taken_before [] x n e = either (eqb x n) (λ i. inr (eqb-true x n i)) (λ i. absurd (true_or_false (rw i at e) refl))
 taken_before (y ∷ ys) x n e = either (eqb y n) (λ i. inl (rw i)) (λ i. rw i (taken_before ys x n (rw i at e)))
 
 taken_still : (taken : List ℕ) (x n : ℕ) → among taken n ≡ true → among (taken ++ x ∷ []) n ≡ true
-unfolding any_passes
 taken_still [] x n e = absurd (true_or_false e refl)
 taken_still (y ∷ ys) x n e = either (eqb y n) (λ i. rw i) (λ i. rw i (taken_still ys x n (rw i at e)))
 
 taken_last : (taken : List ℕ) (x n : ℕ) → x ≡ n → among (taken ++ x ∷ []) n ≡ true
-unfolding any_passes
 taken_last [] x n e = rw (eq-eqb x n e)
 taken_last (y ∷ ys) x n e = either (eqb y n) (λ i. rw i) (λ i. rw i (taken_last ys x n e))
 
@@ -219,11 +217,10 @@ module _ (bytes : List ℕ) where
   -- the statement of one refusal
   Placed : Refusal → Type 0
   Placed r =
-      (r.has_place ≡ true)
-      × ((before : ℕ) × NoneBadBefore bytes before × StandsAtFault bytes before (start_behind before bytes) r.number r.place)
+      IsSomeAnd r.place (λ place. (before : ℕ) × NoneBadBefore bytes before × StandsAtFault bytes before (start_behind before bytes) r.number place)
 
   module _ (more : ℕ) (taken : List ℕ) (before : ℕ) (r : Refusal) (sum : before + more ≡ most_configurations) (all : NoneBadBefore bytes before)
-      (ids : Taken taken before) (refused : parse_from more taken bytes (start_behind before bytes) ≡ bad r) where
+      (ids : Taken taken before) (refused : parse_from more taken bytes (start_behind before bytes) ≡ Err r) where
     abbrev at : ℕ
     at = start_behind before bytes
 
@@ -237,10 +234,10 @@ module _ (bytes : List ℕ) where
     unfolding Placed AtFault
     placed_here f =
         let same : refused_for at (key_end bytes at) (fault_of more taken bytes at) ≡ r = cc (sym (parse_fault more taken bytes at goes_on f) ∙ refused) in
-        rw (← same) (refl, (before, all, at_fault more taken at before goes_on sum ids f))
+        rw (← same) (before, all, at_fault more taken at before goes_on sum ids f)
 
   placed_from : (more : ℕ) (taken : List ℕ) (before : ℕ) (r : Refusal) → before + more ≡ most_configurations → NoneBadBefore bytes before
-      → Taken taken before → parse_from more taken bytes (start_behind before bytes) ≡ bad r → Placed r
+      → Taken taken before → parse_from more taken bytes (start_behind before bytes) ≡ Err r → Placed r
   unfolding start_behind
   placed_from zero taken before r sum all ids e =
       placed_here zero taken before r sum all ids e (λ z. omega (arith, z, fault_too_many zero taken bytes (start_behind before bytes) refl))
@@ -262,10 +259,10 @@ module _ (bytes : List ℕ) where
       (λ n. placed_here (suc more) taken before r sum all ids e (eqb-false (fault_of (suc more) taken bytes at) 0 n))
 
 pub place_of_the_field : PlaceOfTheField
-unfolding parse Placed start_behind Taken Earlier any_passes
+unfolding parse Placed start_behind Taken Earlier
 place_of_the_field [] r e =
     let same : refused_at 18 0 ≡ r = cc in
-    rw (← same) (refl, (0, λ earlier h. absurd (omega (arith, h)), none_at_all refl refl refl))
+    rw (← same) (0, λ earlier h. absurd (omega (arith, h)), none_at_all refl refl refl)
 place_of_the_field (byte ∷ bytes) r e =
     placed_from (byte ∷ bytes) most_configurations [] 0 r refl (λ earlier h. absurd (omega (arith, h)))
     (λ id. (λ i. absurd (true_or_false i refl), λ (earlier, less, read, same). absurd (omega (arith, less)))) e

@@ -13,7 +13,10 @@ use Rattle.wire.specs.Refusals.{◌when◌otherwise◌}
 use Rattle.wire.specs.Search.{among}
 use Rattle.wire.proofs.Booleans.{either, and_left, and_right, and_false, true_or_false}
 use Rattle.wire.proofs.Numbers.{not-refused}
+use Rattle.std.specs.Bool.{then_some}
+use Rattle.std.specs.Option.{unwrap_or}
 use Rattle.algorithms.specs.Sizes.{known_kem, public_key_length}
+use Rattle.algorithms.specs.Stated.{size_bound}
 use Rattle.algorithms.proofs.Stated.{size_bounds}
 use Rattle.keylist.specs.Before.{layout_holds}
 use Rattle.keylist.specs.Layout.{bytes_before_pairs, fault_of, field_at_fault, is_skipped, is_whole, next_start, key_id_at, kem_at, length_at, pair_bytes_at, pair_bytes_hold, most_pair_bytes}
@@ -33,6 +36,15 @@ unknown_test kem =
     either (known_kem kem)
     (λ e. rw (e, ne_eqb (public_key_length kem) 0 (λ z. omega (arith, z, size_bounds.key_is_there kem e))))
     (λ e. rw (e, eq-eqb (public_key_length kem) 0 (size_bounds.no_key_unknown kem e)))
+
+-- Npk, as a lookup gives it, with 0 where it gives none
+pub key_length_or_0 : (kem : ℕ) → unwrap_or (then_some (known_kem kem) (public_key_length kem)) 0 ≡ public_key_length kem
+key_length_or_0 kem = either (known_kem kem) (λ e. rw e) (λ e. rw (e, size_bounds.no_key_unknown kem e))
+
+pub key_bound : (kem : ℕ) → public_key_length kem ≤ size_bound
+key_bound = size_bounds.key_bound
+
+pub ruleset key_or_0 = (key_length_or_0, key_bound)
 
 -- above the house limit no number of pair bytes holds
 pub pairs_above : (size : ℕ) → most_pair_bytes < size → pair_bytes_hold size ≡ false
@@ -117,6 +129,11 @@ module _ (more : ℕ) (taken bytes : List ℕ) (at : ℕ) where
             unfolding fault_of
             fault_by_id e =
                 rw (ne_eqb more 0 m, le-leb _ _ h, skips_not_known bytes at (known_by_length _ k), le-ltb _ _ l, p, eq-eqb _ _ e)
+
+-- the first fault, and what is skipped, as `check::fault` and `check::is_skipped` find them
+pub ruleset faults = (fault_too_many, fault_cut, fault_short, fault_skipped, fault_before_pairs, fault_pairs, fault_disagrees, fault_by_id)
+
+pub ruleset skips = (skips_not_whole, skips_not_short, skips_by_kem)
 
 -- what a conjunction of tests says, part by part
 pub both : {a b : Bool} {P Q : Type 0} → (a ≡ true → P) → (b ≡ true → Q) → (a and b) ≡ true → P × Q

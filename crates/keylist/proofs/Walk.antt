@@ -4,6 +4,7 @@
 use mathlib.Core.Path.{◌≡◌, refl, sym, ◌∙◌}
 use mathlib.Core.Bool.{true, false}
 use mathlib.Core.List.{List, [], ◌∷◌, ◌++◌}
+use Rattle.std.specs.Prelude.{Result, Ok, Err}
 use Prim.Native.Nat.{ℕ, zero, suc, ◌≤◌, ◌<◌}
 use mathlib.Core.Logic.{⊎_elim}
 use native.Mathlib.Nat.{eq-zero-or-pos}
@@ -12,8 +13,8 @@ use lib.ListN.{length, length-take, length-drop}
 use Rattle.wire.specs.declared.refusal.Refusal.{Refusal}
 use Rattle.wire.proofs.Booleans.{either}
 use Rattle.algorithms.specs.Sizes.{public_key_length}
-use Rattle.keylist.specs.declared.Checked.{Checked}
-use Rattle.keylist.specs.Layout.{Configuration, good, bad, parse, parse_from, configuration_at, is_skipped, key_id_at, kem_at, next_start, most_configurations, Result}
+use Rattle.keylist.specs.declared.Counts.{Counts}
+use Rattle.keylist.specs.Layout.{Configuration, parse, parse_from, configuration_at, is_skipped, key_id_at, kem_at, next_start, most_configurations}
 use Rattle.keylist.specs.Answers.{checked_from}
 use Rattle.keylist.specs.Helpers.{read_from, first_read}
 use Rattle.keylist.proofs.LayoutLaws.{Holds, skipped}
@@ -24,7 +25,7 @@ pub record GoodFrom (bytes : List ℕ) (at : ℕ) : Type 0 where
   pub more : ℕ
   pub taken : List ℕ
   pub rest : List Configuration
-  pub parsed : parse_from more taken bytes at ≡ good rest
+  pub parsed : parse_from more taken bytes at ≡ Ok rest
   pub few : more ≤ most_configurations
   pub unskipped : is_skipped bytes at ≡ false
 
@@ -38,7 +39,7 @@ pub record GoodNext (bytes : List ℕ) (at : ℕ) (rest : List Configuration) : 
 module _ (bytes : List ℕ) where
   pub walk_end : (at : ℕ) (w : GoodFrom bytes at) → length bytes ≤ at → w.rest ≡ []
   walk_end at w h =
-      let e : good [] ≡ good w.rest = sym (parse_end w.more w.taken bytes at h) ∙ w.parsed in
+      let e : ◌≡◌ {A = Result (List Configuration) Refusal} (Ok []) (Ok w.rest) = sym (parse_end w.more w.taken bytes at h) ∙ w.parsed in
       cc
 
   -- skipping, one configuration at a time
@@ -59,8 +60,8 @@ module _ (bytes : List ℕ) where
       either (is_skipped bytes at) (λ k. rw k (omega (arith, skip_onward fuel (next_start bytes at)))) (λ k. rw k (omega arith))
 
   -- a good list is good from the next configuration that is read
-  pub skip_good : (fuel more : ℕ) (taken : List ℕ) (at : ℕ) (rest : List Configuration) → more ≤ fuel → parse_from more taken bytes at ≡ good rest
-      → (left : ℕ) × (left ≤ more) × (parse_from left taken bytes (read_from fuel bytes at) ≡ good rest)
+  pub skip_good : (fuel more : ℕ) (taken : List ℕ) (at : ℕ) (rest : List Configuration) → more ≤ fuel → parse_from more taken bytes at ≡ Ok rest
+      → (left : ℕ) × (left ≤ more) × (parse_from left taken bytes (read_from fuel bytes at) ≡ Ok rest)
       × (is_skipped bytes (read_from fuel bytes at) ≡ false)
   unfolding read_from
   skip_good zero more taken at rest h e = (
@@ -83,7 +84,7 @@ module _ (bytes : List ℕ) where
 
   -- the walk goes on at the first configuration from an offset on that is read
   unfoldable walk_from : (at more : ℕ) (taken : List ℕ) (rest : List Configuration) → more ≤ most_configurations
-      → parse_from more taken bytes at ≡ good rest → GoodFrom bytes (first_read bytes at)
+      → parse_from more taken bytes at ≡ Ok rest → GoodFrom bytes (first_read bytes at)
   walk_from at more taken rest h e =
       let s = skip_good most_configurations more taken at rest h e in
       record { more = s.0; taken = taken; rest = rest; parsed = s.2; few = omega (arith, s.1); unskipped = s.3 }
@@ -93,7 +94,7 @@ module _ (bytes : List ℕ) where
       either (good_at w.taken bytes at) (λ e. e)
       (λ e. no_refusal (sym (parse_bad w.more w.taken bytes at h w.unskipped e) ∙ w.parsed))
 
-  step : (at more : ℕ) (taken : List ℕ) (rest : List Configuration) → more ≤ most_configurations → parse_from more taken bytes at ≡ good rest
+  step : (at more : ℕ) (taken : List ℕ) (rest : List Configuration) → more ≤ most_configurations → parse_from more taken bytes at ≡ Ok rest
       → at < length bytes → good_at taken bytes at ≡ true → GoodNext bytes at rest
   unfolding walk_from
   step at zero taken rest few e h g = no_refusal (sym (parse_too_many zero taken bytes at h refl) ∙ e)
@@ -110,28 +111,28 @@ module _ (bytes : List ℕ) where
   pub walk_next : (at : ℕ) (w : GoodFrom bytes at) → at < length bytes → GoodNext bytes at w.rest
   walk_next at w h = step at w.more w.taken w.rest w.few w.parsed h (good_here at w h)
 
-  pub not_empty : (cs : List Configuration) → parse bytes ≡ good cs → 0 < length bytes
+  pub not_empty : (cs : List Configuration) → parse bytes ≡ Ok cs → 0 < length bytes
   not_empty cs e =
       ⊎_elim (λ z. no_refusal (sym (parse_none bytes z) ∙ e)) (λ p. p) (eq-zero-or-pos (length bytes))
 
   -- reading starts at 0, with no key id taken
-  pub parse_all : (cs : List Configuration) → parse bytes ≡ good cs → parse_from most_configurations [] bytes 0 ≡ good cs
+  pub parse_all : (cs : List Configuration) → parse bytes ≡ Ok cs → parse_from most_configurations [] bytes 0 ≡ Ok cs
   parse_all cs e = sym (parse_some bytes (not_empty cs e)) ∙ e
 
   -- the walk starts at the first configuration that is read, over all configurations
-  unfoldable pub walk_start : (cs : List Configuration) → parse bytes ≡ good cs → GoodFrom bytes (first_read bytes 0)
+  unfoldable pub walk_start : (cs : List Configuration) → parse bytes ≡ Ok cs → GoodFrom bytes (first_read bytes 0)
   unfolding walk_from
   walk_start cs e = walk_from 0 most_configurations [] cs (omega arith) (parse_all cs e)
 
 -- a list that check calls good is good
-pub checked_good : (p : Result (List Configuration)) (skips m n : ℕ) → checked_from p skips ≡ Checked.Good m n
-    → (cs : List Configuration) × (p ≡ good cs)
-checked_good (good cs) skips m n e = (cs, refl)
-checked_good (bad r) skips m n e = absurd (let z : ◌≡◌ {A = ℕ} 0 1 = cc in omega arith)
+pub checked_good : (p : Result (List Configuration) Refusal) (skips : ℕ) (n : Counts) → checked_from p skips ≡ Ok n
+    → (cs : List Configuration) × (p ≡ Ok cs)
+checked_good (Ok cs) skips n e = (cs, refl)
+checked_good (Err r) skips n e = cc
 
-pub checked_bad : (p : Result (List Configuration)) (skips : ℕ) (r : Refusal) → checked_from p skips ≡ Checked.Refused r → p ≡ bad r
-checked_bad (good cs) skips r e = absurd (let z : ◌≡◌ {A = ℕ} 0 1 = cc in omega arith)
-checked_bad (bad s) skips r e = cc
+pub checked_bad : (p : Result (List Configuration) Refusal) (skips : ℕ) (r : Refusal) → checked_from p skips ≡ Err r → p ≡ Err r
+checked_bad (Ok cs) skips r e = cc
+checked_bad (Err s) skips r e = cc
 
 -- the public key of a configuration that lies in the list has its Npk bytes
 pub key_length_at : (bytes : List ℕ) (at : ℕ) → Holds bytes at

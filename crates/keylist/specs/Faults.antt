@@ -1,10 +1,10 @@
 -- 02, A2: what stands at the place of a refused list, said apart from the chain of faults; and that the same lists are read as before.
-use Rattle.std.specs.Prelude.{ℕ, zero, suc, ◌+◌, ◌≤◌, ◌<◌, ◌≡◌, true, false, List, ◌↔◌, ◌⊎◌, length}
+use Rattle.std.specs.Prelude.{ℕ, zero, suc, ◌+◌, ◌≤◌, ◌<◌, ◌≡◌, true, false, List, ◌↔◌, ◌⊎◌, Ok, Err, IsSomeAnd, length}
 use Rattle.wire.specs.Bytes.{byte_at, word_at}
 use Rattle.wire.specs.declared.refusal.Refusal.{Refusal}
 use Rattle.algorithms.specs.Sizes.{public_key_length}
 use Rattle.keylist.specs.Before.{layout_holds, parse_before}
-use Rattle.keylist.specs.Layout.{Configuration, good, bad, is_skipped, key_end, key_id_at, kem_at, most_configurations, next_start, pair_bytes_at, pair_bytes_hold, parse}
+use Rattle.keylist.specs.Layout.{Configuration, is_skipped, key_end, key_id_at, kem_at, most_configurations, next_start, pair_bytes_at, pair_bytes_hold, parse}
 
 -- where the configuration behind so many others starts
 unfoldable pub start_behind : ℕ → List ℕ → ℕ
@@ -55,10 +55,9 @@ pub data StandsAtFault (bytes : List ℕ) (before start number place : ℕ) : Ty
 -- "The place becomes the offset of the first byte of the field at fault": of every list that is refused, and of its first bad configuration
 abbrev pub PlaceOfTheField : Type 0
 PlaceOfTheField =
-    (bytes : List ℕ) (r : Refusal) → parse bytes ≡ bad r
-    → (r.has_place ≡ true)
-    × ((before : ℕ) × NoneBadBefore bytes before × StandsAtFault bytes before (start_behind before bytes) r.number r.place)
+    (bytes : List ℕ) (r : Refusal) → parse bytes ≡ Err r
+    → IsSomeAnd r.place (λ place. (before : ℕ) × NoneBadBefore bytes before × StandsAtFault bytes before (start_behind before bytes) r.number place)
 
 -- what the reader takes, and what it hands back, is as before
 abbrev pub ReadAsBefore : Type 0
-ReadAsBefore = (bytes : List ℕ) (cs : List Configuration) → (parse bytes ≡ good cs) ↔ (parse_before bytes ≡ good cs)
+ReadAsBefore = (bytes : List ℕ) (cs : List Configuration) → (parse bytes ≡ Ok cs) ↔ (parse_before bytes ≡ Ok cs)

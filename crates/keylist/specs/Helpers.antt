@@ -1,8 +1,17 @@
 -- What only the contracts of functions below the entries cite: a reader of the rules can skip this file.
-use Rattle.std.specs.Prelude.{ℕ, zero, suc, ◌≡◌, List, ltb, length}
+use Rattle.std.specs.Prelude.{ℕ, zero, suc, ◌≡◌, List, Option, Some, None, Ok, ltb, length}
+use Rattle.std.specs.Bool.{then_some}
 use Rattle.wire.specs.Tests.{pick}
-use Rattle.keylist.specs.Layout.{Configuration, good, is_skipped, key_start, key_end, key_id_at, kem_at, most_configurations, next_start, parse}
+use Rattle.wire.specs.Reasons.{number_of}
+use Rattle.wire.specs.declared.refusal.Reason.{Reason}
+use Rattle.keylist.specs.Answers.{span}
+use Rattle.keylist.specs.Layout.{Configuration, is_skipped, key_start, key_end, key_id_at, kem_at, most_configurations, next_start, parse}
 use Rattle.keylist.specs.declared.Place.{Place}
+
+-- the number of a reason, if there is one; 0 where there is none
+abbrev pub number_or_0 : Option Reason → ℕ
+number_or_0 None = 0
+number_or_0 (Some reason) = number_of reason
 
 -- from an offset on, where the first configuration starts that is not skipped, or the list ends; at most so many are skipped
 unfoldable pub read_from : ℕ → List ℕ → ℕ → ℕ
@@ -18,18 +27,14 @@ place_of bytes at =
     record {
       key_id = key_id_at bytes at;
       kem = kem_at bytes at;
-      key_start = key_start at;
-      key_end = key_end bytes at;
+      key = span (key_start at) (key_end bytes at);
       next = first_read bytes (next_start bytes at);
     }
 
 -- the same, and nothing past the end
-abbrev pub place_at : List ℕ → ℕ → Place
-place_at bytes at =
-    pick (ltb at (length bytes))
-    (place_of bytes at)
-    (record { key_id = 0; kem = 0; key_start = 0; key_end = 0; next = at })
+abbrev pub place_at : List ℕ → ℕ → Option Place
+place_at bytes at = then_some (ltb at (length bytes)) (place_of bytes at)
 
 -- the list reads into configurations
 abbrev pub IsGood : List ℕ → Type 0
-IsGood bytes = (cs : List Configuration) × (parse bytes ≡ good cs)
+IsGood bytes = (cs : List Configuration) × (parse bytes ≡ Ok cs)

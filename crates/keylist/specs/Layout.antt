@@ -1,6 +1,6 @@
 -- 01, "Layouts", the key list (RFC 9458, 3.1 and 3.2), with 02, A1 and A2: a list of bytes read into configurations, those with an unknown
 -- KEM left out, or refused with what is wrong and its place.
-use Rattle.std.specs.Prelude.{ℕ, zero, suc, ◌+◌, ◌/◌, ◌%◌, Bool, not, List, [], ◌∷◌, ◌++◌, eqb, leb, ltb, length}
+use Rattle.std.specs.Prelude.{ℕ, zero, suc, ◌+◌, ◌/◌, ◌%◌, Bool, not, List, [], ◌∷◌, ◌++◌, Result, Ok, Err, eqb, leb, ltb, length}
 use Rattle.wire.specs.Tests.{pick, ◌and◌}
 use Rattle.wire.specs.Bytes.{byte_at, word_at, part}
 use Rattle.wire.specs.Search.{among}
@@ -23,11 +23,6 @@ pub record Configuration : Type 0 where
   pub kem : ℕ
   pub public_key : List ℕ
   pub pairs : List Pair
-
--- a result, or a refusal
-pub data Result (A : Type 0) : Type 0 where
-  good : A → Result A
-  bad : Refusal → Result A
 
 -- The fields of the configuration whose length stands at an offset: L, key id, KEM, S, and where its parts lie.
 abbrev pub length_at : List ℕ → ℕ → ℕ
@@ -118,26 +113,26 @@ abbrev pub refused_for : ℕ → ℕ → ℕ → Refusal
 refused_for at end fault = refused_at fault (field_at_fault at end fault)
 
 -- by its first fault: with 0 the result, else the refusal
-abbrev pub unless_fault : {A : Type 0} → ℕ → ℕ → ℕ → Result A → Result A
+abbrev pub unless_fault : {A : Type 0} → ℕ → ℕ → ℕ → Result A Refusal → Result A Refusal
 unless_fault at end zero result = result
-unless_fault at end (suc n) result = bad (refused_for at end (suc n))
+unless_fault at end (suc n) result = Err (refused_for at end (suc n))
 
 -- a configuration in front of those that follow
-abbrev pub followed_by : Configuration → Result (List Configuration) → Result (List Configuration)
-followed_by c (good cs) = good (c ∷ cs)
-followed_by c (bad r) = bad r
+abbrev pub followed_by : Configuration → Result (List Configuration) Refusal → Result (List Configuration) Refusal
+followed_by c (Ok cs) = Ok (c ∷ cs)
+followed_by c (Err r) = Err r
 
 -- the configurations from an offset on, where so many may still come and these key ids are taken; a skipped one is one of so many, and
 -- takes no key id
-unfoldable pub parse_from : ℕ → List ℕ → List ℕ → ℕ → Result (List Configuration)
-parse_from zero taken bytes at = pick (leb (length bytes) at) (good []) (bad (refused_for at (key_end bytes at) (fault_of zero taken bytes at)))
+unfoldable pub parse_from : ℕ → List ℕ → List ℕ → ℕ → Result (List Configuration) Refusal
+parse_from zero taken bytes at = pick (leb (length bytes) at) (Ok []) (Err (refused_for at (key_end bytes at) (fault_of zero taken bytes at)))
 parse_from (suc more) taken bytes at =
-    pick (leb (length bytes) at) (good [])
+    pick (leb (length bytes) at) (Ok [])
     (unless_fault at (key_end bytes at) (fault_of (suc more) taken bytes at)
     (pick (is_skipped bytes at) (parse_from more taken bytes (next_start bytes at))
     (followed_by (configuration_at bytes at) (parse_from more (taken ++ key_id_at bytes at ∷ []) bytes (next_start bytes at)))))
 
 -- a list is one configuration or more, and none at all is 18; a bad one is refused whole, for its first bad configuration
-unfoldable pub parse : List ℕ → Result (List Configuration)
-parse [] = bad (refused_at 18 0)
+unfoldable pub parse : List ℕ → Result (List Configuration) Refusal
+parse [] = Err (refused_at 18 0)
 parse (byte ∷ bytes) = parse_from most_configurations [] (byte ∷ bytes) 0

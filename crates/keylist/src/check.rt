@@ -1,16 +1,18 @@
-// Reads a key list: whether it is good as a whole, and the fields of one configuration.
+// Reads a key list: whether it is good as a whole, and the fields of one configuration. The start of a configuration stands in the one before it, so
+// the walks here go by offsets, not over elements.
 ghost use Rattle.std.specs.Prelude.{◌≡◌, ◌+◌, ◌<◌, ◌≤◌, length};
+ghost use Rattle.wire.specs.Search.{among};
 ghost use Rattle.algorithms.specs.Sizes.{public_key_length};
 ghost use Rattle.algorithms.specs.Stated.{size_bound};
 ghost use Rattle.keylist.specs.Layout.{fault_of, field_at_fault, is_skipped, kem_at, next_start, pair_bytes_hold};
 ghost use Rattle.keylist.specs.Answers.{checked};
-ghost use Rattle.keylist.specs.Helpers.{first_read, place_at};
+ghost use Rattle.keylist.specs.Helpers.{first_read, number_or_0, place_at};
 
-use crate::{Checked, Place};
-use algorithms::{Kem, Size};
+use crate::{Counts, Place};
+use algorithms::Kem;
 use wire::bytes::{byte_at, word_at};
-use wire::refusal::Refusal;
-use wire::search::has_byte;
+use wire::refusal::{Reason, Refusal};
+use wire::span::Span;
 
 // The house limits.
 pub const MOST_CONFIGURATIONS: usize = 16;
@@ -21,13 +23,7 @@ pub const MOST_PAIR_BYTES: usize = 64;
 pub fn pair_bytes_hold(size: usize) -> bool
     ensures { result ≡ pair_bytes_hold size }
 {
-    if size % 4 != 0 {
-        return false;
-    }
-    if size < 4 {
-        return false;
-    }
-    size <= MOST_PAIR_BYTES
+    size % 4 == 0 && 4 <= size && size <= MOST_PAIR_BYTES
 }
 
 // Where the next configuration would start. It asks for an offset in the list, so that no sum wraps.
@@ -38,73 +34,76 @@ fn next_start(list: &[u8], at: usize) -> usize
     at + 2 + (word_at(list, at) as usize)
 }
 
-// The first fault of the configuration at an offset of the list, 0 where it has none or is skipped. `key` is its KEM's key length, 0 where
+// The key id is among those taken.
+fn is_taken(taken: &[u8], id: u8) -> bool
+    ensures { result ≡ among taken.now id }
+{
+    taken.contains(&id)
+}
+
+// The first fault of the configuration at an offset of the list; none where it is good or skipped. `key` is its KEM's key length, 0 where
 // that is unknown; `more` is how many may still come, this one counted. It asks for an offset in the list and for that key length, so that no sum
 // wraps and the table is not asked again.
-fn fault(list: &[u8], at: usize, key: usize, more: usize, taken: &[u8]) -> u8
+#[tactic(auto, using(crate::proofs::LayoutLaws::faults))]
+fn fault(list: &[u8], at: usize, key: usize, more: usize, taken: &[u8]) -> Option<Reason>
     requires { (at < length list.now) × (key ≡ public_key_length (kem_at list.now at)) × (key ≤ size_bound) }
-    ensures { result ≡ fault_of more taken.now list.now at }
+    ensures { number_or_0 result ≡ fault_of more taken.now list.now at }
 {
     if more == 0 {
-        return Refusal::TOO_MANY_CONFIGURATIONS;
+        return Some(Reason::TooManyConfigurations);
     }
     if list.len() < next_start(list, at) {
-        return Refusal::LIST_TRUNCATED;
+        return Some(Reason::ListTruncated);
     }
     let size = word_at(list, at) as usize;
     if size < 3 {
-        return Refusal::LENGTH_MISMATCH;
+        return Some(Reason::LengthMismatch);
     }
     if key == 0 {
-        return 0;
+        return None;
     }
     if size < 5 + key {
-        return Refusal::LENGTH_MISMATCH;
+        return Some(Reason::LengthMismatch);
     }
     let pair_bytes = word_at(list, at + 5 + key) as usize;
     if !pair_bytes_hold(pair_bytes) {
-        return Refusal::BAD_PAIR_LENGTH;
+        return Some(Reason::BadPairLength);
     }
     if size != 5 + key + pair_bytes {
-        return Refusal::LENGTH_MISMATCH;
+        return Some(Reason::LengthMismatch);
     }
-    if has_byte(taken, byte_at(list, at + 2)) {
-        return Refusal::DUPLICATE_KEY_ID;
+    if is_taken(taken, byte_at(list, at + 2)) {
+        return Some(Reason::DuplicateKeyId);
     }
-    0
+    None
 }
 
-// The first byte of the field at fault, counted from the configuration's start, where its public key ends there.
+// The first byte of the field at fault, by the refusal number, counted from the configuration's start, where its public key ends there. Every number has an
+// answer, so it takes a number and not a reason.
 pub fn field_at_fault(end: usize, number: u8) -> usize
     ensures value { result ≡ field_at_fault 0 end number }
     ensures bound { result ≤ 3 + end }
 {
-    if number == Refusal::UNKNOWN_KEM {
-        return 3;
+    match number {
+        // an unknown KEM
+        3 => 3,
+        // a bad pair length
+        20 => end,
+        // a key id that stands twice
+        21 => 2,
+        _ => 0,
     }
-    if number == Refusal::BAD_PAIR_LENGTH {
-        return end;
-    }
-    if number == Refusal::DUPLICATE_KEY_ID {
-        return 2;
-    }
-    0
 }
 
 // The configuration at an offset is skipped: it lies whole in the list, has room for its KEM, and that is unknown.
+#[tactic(auto, using(crate::proofs::LayoutLaws::skips))]
 fn is_skipped(list: &[u8], at: usize) -> bool
     ensures { result ≡ is_skipped list.now at }
 {
-    if list.len() <= at {
-        return false;
-    }
-    if list.len() < next_start(list, at) {
-        return false;
-    }
-    if word_at(list, at) < 3 {
-        return false;
-    }
-    key_length(word_at(list, at + 3)) == 0
+    at < list.len()
+        && next_start(list, at) <= list.len()
+        && 3 <= word_at(list, at)
+        && key_length(word_at(list, at + 3)) == 0
 }
 
 // From an offset on, where the first configuration starts that is not skipped, or the list ends.
@@ -112,24 +111,23 @@ pub fn first_read(list: &[u8], from: usize) -> usize
     ensures { result ≡ first_read list.now from }
 {
     let mut at = from;
-    let mut more = MOST_CONFIGURATIONS;
-    while more != 0 {
+    for skipped in 0..MOST_CONFIGURATIONS {
         if !is_skipped(list, at) {
             return at;
         }
         at = next_start(list, at);
-        more -= 1;
     }
     at
 }
 
 // How many configurations of a list were read and how many skipped, or the first fault with its place.
-pub fn check(list: &[u8]) -> Checked
+pub fn check(list: &[u8]) -> Result<Counts, Refusal>
     ensures { result ≡ checked list.now }
 {
-    if list.len() == 0 {
-        return Checked::Refused(Refusal::at(Refusal::LIST_TRUNCATED, 0));
+    if list.is_empty() {
+        return Err(Reason::ListTruncated.at(0));
     }
+    // The key ids of those that were read. The library has no heap, and `read` counts for the answer as well.
     let mut taken = [0u8; MOST_CONFIGURATIONS];
     let mut read = 0;
     let mut skipped = 0;
@@ -137,9 +135,8 @@ pub fn check(list: &[u8]) -> Checked
     while at < list.len() {
         let key = key_length(word_at(list, at + 3));
         let more = MOST_CONFIGURATIONS - (read + skipped);
-        let number = fault(list, at, key, more, &taken[..read]);
-        if number != 0 {
-            return Checked::Refused(Refusal::at(number, at + field_at_fault(5 + key, number)));
+        if let Some(reason) = fault(list, at, key, more, &taken[..read]) {
+            return Err(reason.at(at + field_at_fault(5 + key, reason.number())));
         }
         if key == 0 {
             skipped += 1;
@@ -150,39 +147,33 @@ pub fn check(list: &[u8]) -> Checked
         read += 1;
         at = next_start(list, at);
     }
-    Checked::Good(read, skipped)
+    Ok(Counts { read, skipped })
 }
 
-// The fields of the configuration whose length stands at an offset, where its parts lie, and where the next one that is read starts.
-pub fn place_at(list: &[u8], at: usize) -> Place
+// The fields of the configuration whose length stands at an offset, where its parts lie, and where the next one that is read starts; none past the end.
+pub fn place_at(list: &[u8], at: usize) -> Option<Place>
     ensures { result ≡ place_at list.now at }
 {
     if list.len() <= at {
-        return Place {
-            key_id: 0,
-            kem: 0,
-            key_start: 0,
-            key_end: 0,
-            next: at,
-        };
+        return None;
     }
     let kem = word_at(list, at + 3);
-    Place {
+    Some(Place {
         key_id: byte_at(list, at + 2),
         kem,
-        key_start: at + 5,
-        key_end: at + 5 + key_length(kem),
+        key: Span {
+            start: at + 5,
+            end: at + 5 + key_length(kem),
+        },
         next: first_read(list, next_start(list, at)),
-    }
+    })
 }
 
 // Npk, 0 where the KEM is unknown.
+#[tactic(auto, using(crate::proofs::LayoutLaws::key_or_0))]
 pub fn key_length(kem: u16) -> usize
     ensures value { result ≡ public_key_length kem }
     ensures bound { result ≤ size_bound }
 {
-    match Kem(kem).public_key_length() {
-        Size::Bytes(key) => key,
-        Size::Unknown => 0,
-    }
+    Kem(kem).public_key_length().unwrap_or(0)
 }

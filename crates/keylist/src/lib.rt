@@ -4,33 +4,26 @@
 pub mod check;
 pub mod key;
 
-use wire::refusal::Refusal;
+use wire::span::Span;
 
 // 01's key id: the first byte of a configuration and of a request.
 #[repr(C)]
-#[derive(Clone, Copy)]
+#[derive(Clone, Copy, Debug, PartialEq, Eq)]
 pub struct KeyId(pub u8);
 
 // A pair of KDF and AEAD.
 #[repr(C)]
-#[derive(Clone, Copy)]
+#[derive(Clone, Copy, Debug, PartialEq, Eq)]
 pub struct Pair {
     pub kdf: u16,
     pub aead: u16,
 }
 
-// How many configurations were read and how many skipped, or the refusal.
-#[derive(Clone, Copy)]
-pub enum Checked {
-    Good(usize, usize),
-    Refused(Refusal),
-}
-
-// Where a public key starts and ends in its list, or the refusal.
-#[derive(Clone, Copy)]
-pub enum KeyPlace {
-    Found(usize, usize),
-    Refused(Refusal),
+// How many configurations were read and how many skipped.
+#[derive(Clone, Copy, Debug, PartialEq, Eq)]
+pub struct Counts {
+    pub read: usize,
+    pub skipped: usize,
 }
 
 // The fields of one configuration, where its key lies, with its pairs two bytes behind it, and where the next one that is read starts.
@@ -38,7 +31,6 @@ pub enum KeyPlace {
 pub struct Place {
     pub key_id: u8,
     pub kem: u16,
-    pub key_start: usize,
-    pub key_end: usize,
+    pub key: Span,
     pub next: usize,
 }

@@ -1,16 +1,19 @@
 -- Laws of arrays whose first elements count: what a filling loop does, what stands at a place, and the search among what counts.
 -- Assumes nothing.
 use mathlib.Core.Path.{◌≡◌, refl, sym, ap, ◌∙◌}
-use mathlib.Core.Bool.{Bool, true, false}
+use mathlib.Core.Bool.{Bool}
 use mathlib.Core.List.{List, [], ◌∷◌, ◌++◌, map, append_assoc}
-use Prim.Native.Nat.{ℕ, zero, suc, ◌-◌, ◌≤◌, ◌<◌, min}
+use lib.Dec.{ltb}
+use Prim.Native.Nat.{ℕ, zero, suc, ◌-◌, ◌<◌, min}
 use native.Mathlib.Nat.{not-suc-le-zero, le_of_suc-le-suc}
 use native.Mathlib.Omega.{arith}
 use lib.ListN.{length, get_or, take, set, replicate, length-append, length-map, length-take, get_or-map}
 use lib.Seq.{set_at, get_or-take, take-append_seam, take-nil}
-use Rattle.wire.specs.Search.{first_place, any_passes}
+use Rattle.std.specs.Bool.{then_some}
+use Rattle.std.specs.List.{position, position_or_len}
+use Rattle.std.proofs.lemmas.List.Recursion.{is_position_or_len}
+use Rattle.wire.specs.Search.{first_place}
 use Rattle.wire.proofs.Booleans.{either}
-use Rattle.wire.proofs.Matches.{first_at, first_none, any_at, any_none}
 use Rattle.keys.specs.Keys.{padded}
 
 module _ {A : Type 0} where
@@ -40,6 +43,20 @@ module _ {A : Type 0} where
   pub take-padded : (size : ℕ) (blank : A) (xs : List A) → take (length xs) (padded size blank xs) ≡ xs
   take-padded size blank xs = take-append_seam xs (replicate (size - length xs) blank)
 
+-- the first match, as the library has it
+module _ {A B : Type 0} (view : A → B) (test : B → Bool) where
+  pub first_seen : (xs : List A) → first_place test (map view xs) ≡ position_or_len (λ x. test (view x)) xs
+  unfolding first_place
+  first_seen xs =
+      is_position_or_len (λ ys. first_place test (map view ys)) (λ x. test (view x)) refl
+      (λ x ys. either (test (view x)) (λ e. rw e refl) (λ e. rw e (omega arith))) xs
+
+  pub position_seen : (xs : List A)
+      → position (λ x. test (view x)) xs ≡ then_some (ltb (first_place test (map view xs)) (length (map view xs))) (first_place test (map view xs))
+  position_seen xs =
+      rw (first_seen xs, length-map xs view)
+      (either (ltb (position_or_len (λ x. test (view x)) xs) (length xs)) (λ e. rw e refl) (λ e. rw e refl))
+
 module _ {A B : Type 0} (view : A → B) where
   -- a change of one element, seen through a map
   pub map-set : (xs : List A) (i : ℕ) (x : A) → map view (set xs i x) ≡ set (map view xs) i (view x)
@@ -50,15 +67,6 @@ module _ {A B : Type 0} (view : A → B) where
   pub map-append : (xs ys : List A) → map view (xs ++ ys) ≡ map view xs ++ map view ys
   map-append [] ys = refl
   map-append (x ∷ xs) ys = ap (λ (zs : List B). view x ∷ zs) (map-append xs ys)
-
-  -- the search among those that count, by the search among all
-  pub first_stored : (test : B → Bool) (count : ℕ) (list : List A)
-      → first_place test (map view (take count list)) ≡ min count (first_place (λ x. test (view x)) list)
-  unfolding first_place
-  first_stored test zero list = omega arith
-  first_stored test (suc count) [] = omega arith
-  first_stored test (suc count) (x ∷ list) =
-      either (test (view x)) (λ e. rw e (omega arith)) (λ e. rw e (ap suc (first_stored test count list) ∙ omega arith))
 
   module _ (count : ℕ) (list : List A) where
     pub length_stored : length (map view (take count list)) ≡ min count (length list)
@@ -71,34 +79,3 @@ module _ {A B : Type 0} (view : A → B) where
         get_d_any (map view (take count list)) i e (view d) (rw length_stored (omega arith))
         ∙ get_or-map view (take count list) i d
         ∙ ap view (get_or-take count list i d h)
-
-    module _ (d : A) (test : B → Bool) (k : ℕ) (none : (j : ℕ) → j < k → test (view (get_or list j d)) ≡ false) where
-      stored_none : k ≤ count → k ≤ length list → (j : ℕ) → j < k → test (get_or (map view (take count list)) j (view d)) ≡ false
-      stored_none h l j m = rw (stored_at j d (view d) (omega arith) (omega arith)) (none j m)
-
-      -- the element at a place is the first that passes
-      pub stored_first : k < count → k < length list → test (view (get_or list k d)) ≡ true
-          → first_place test (map view (take count list)) ≡ k
-      stored_first h l e =
-          first_at (view d) test (map view (take count list)) k (rw length_stored (omega arith)) (stored_none (omega arith) (omega arith))
-          (rw (stored_at k d (view d) h l) e)
-
-      -- none of those that count passes
-      pub stored_first_none : k ≡ min count (length list) → first_place test (map view (take count list)) ≡ k
-      stored_first_none e =
-          let all : length (map view (take count list)) ≡ k = length_stored ∙ sym e in
-          first_none (view d) test (map view (take count list))
-          (λ j l. stored_none (omega arith) (omega arith) j (omega arith)) ∙ all
-
-module _ {A : Type 0} (count : ℕ) (list : List A) (d : A) (test : A → Bool) (k : ℕ) where
-  -- the element at a place passes
-  pub stored_any : k < count → k < length list → test (get_or list k d) ≡ true → any_passes test (take count list) ≡ true
-  stored_any h l e =
-      any_at d test (take count list) k (rw (length-take count list) (omega arith)) (rw (get_or-take count list k d h) e)
-
-  -- none of those that count passes
-  pub stored_any_none : ((j : ℕ) → j < k → test (get_or list j d) ≡ false) → k ≡ min count (length list)
-      → any_passes test (take count list) ≡ false
-  stored_any_none none e =
-      let all : length (take count list) ≡ k = length-take count list ∙ sym e in
-      any_none d test (take count list) (λ j l. rw (get_or-take count list j d (omega arith)) (none j (omega arith)))

@@ -3,14 +3,15 @@
 use mathlib.Core.Path.{◌≡◌, refl, sym}
 use mathlib.Core.Bool.{false}
 use mathlib.Core.List.{List, [], ◌∷◌, ◌++◌, map}
+use Rattle.std.specs.Prelude.{Ok}
 use Prim.Native.Nat.{ℕ, suc, ◌≤◌}
 use native.Mathlib.Omega.{arith}
 use borrow.Author.Tests.{ne_eqb, eqb-false}
 use lib.Dec.{eqb}
 use lib.ListN.{length}
-use Rattle.wire.specs.Search.{among, any_passes}
+use Rattle.wire.specs.Search.{among}
 use Rattle.wire.proofs.Booleans.{either, true_or_false}
-use Rattle.keylist.specs.Layout.{Configuration, good, parse, configuration_at, most_configurations}
+use Rattle.keylist.specs.Layout.{Configuration, parse, configuration_at, most_configurations}
 use Rattle.keylist.proofs.Parsing.{by_reading, not_taken}
 use Rattle.keylist.proofs.Walk.{parse_all}
 
@@ -29,14 +30,13 @@ ids cs = map (λ (c : Configuration). c.key_id) cs
 
 -- a number that is not among more numbers is not among fewer, and is not the last of them
 fewer : (taken : List ℕ) (x n : ℕ) → among (taken ++ x ∷ []) n ≡ false → (among taken n ≡ false) × (x ≡ n → ⊥)
-unfolding any_passes
 fewer [] x n e = (refl, either (eqb x n) (λ h. absurd (true_or_false refl (rw h at e))) (λ h. eqb-false x n h))
 fewer (t ∷ taken) x n e =
     either (eqb t n) (λ h. absurd (true_or_false refl (rw h at e))) (λ h. rw h (fewer taken x n (rw h at e)))
 
 -- what is fresh after one number more was taken was so before, and is not that number
 fresh_fewer : (taken : List ℕ) (x : ℕ) (xs : List ℕ) → Fresh (taken ++ x ∷ []) xs → Fresh taken xs × (among xs x ≡ false)
-unfolding Fresh any_passes
+unfolding Fresh
 fresh_fewer taken x [] f = (tt, refl)
 fresh_fewer taken x (y ∷ xs) f =
     let here = fewer taken x y f.0 in
@@ -62,7 +62,7 @@ parsed_one more taken c cs new p =
 parsed_skip : (more : ℕ) (taken : List ℕ) (cs : List Configuration) → Parsed more taken cs → Parsed (suc more) taken cs
 parsed_skip more taken cs p = record { few = omega (arith, p.few); distinct = p.distinct; fresh = p.fresh }
 
-pub parsed : (bytes : List ℕ) (cs : List Configuration) → parse bytes ≡ good cs → Parsed most_configurations [] cs
+pub parsed : (bytes : List ℕ) (cs : List Configuration) → parse bytes ≡ Ok cs → Parsed most_configurations [] cs
 unfolding configuration_at
 parsed bytes cs e =
     by_reading bytes (λ more taken at rest. Parsed more taken rest)

@@ -3,6 +3,7 @@
 use mathlib.Core.Path.{◌≡◌, refl, sym, ap, ◌∙◌}
 use mathlib.Core.Bool.{true}
 use mathlib.Core.List.{List, [], ◌∷◌, ◌++◌, map, append-nil}
+use Rattle.std.specs.Prelude.{Result, Ok, Err}
 use Prim.Native.Nat.{ℕ, zero, suc, ◌+◌, ◌*◌, ◌/◌, ◌≤◌, ◌<◌}
 use native.Mathlib.Omega.{arith}
 use lib.ListN.{length, set, length-append, length-map}
@@ -10,7 +11,7 @@ use lib.Seq.{append_snoc}
 use Rattle.wire.specs.Bytes.{word_at}
 use Rattle.keylist.specs.declared.Pair.{Pair}
 use Rattle.keylist.specs.Before.{layout_holds}
-use Rattle.keylist.specs.Layout.{Configuration, good, parse, configuration_at, key_id_at, kem_at, pair_bytes_at, pairs_start, next_start, pairs_at, most_configurations}
+use Rattle.keylist.specs.Layout.{Configuration, parse, configuration_at, key_id_at, kem_at, pair_bytes_at, pairs_start, next_start, pairs_at, most_configurations}
 use Rattle.keylist.specs.Helpers.{first_read}
 use Rattle.keylist.proofs.LayoutLaws.{good_layout}
 use Rattle.keylist.proofs.Walk.{GoodFrom, walk_start, walk_next, walk_end}
@@ -18,7 +19,11 @@ use Rattle.keys.specs.declared.KeyState.{KeyState}
 use Rattle.keys.specs.declared.Keys.{Keys}
 use Rattle.keys.specs.Stored.{most_pairs, no_pair, blank_key, stored_key, stored_keys}
 use Rattle.keys.specs.Keys.{padded}
-use Rattle.keys.specs.Helpers.{keys_from}
+use Rattle.keys.specs.declared.KeysRead.{KeysRead}
+use Rattle.keys.specs.Helpers.{keys_from, keys_of_parsed}
+use Rattle.keylist.specs.declared.Counts.{Counts}
+use Rattle.keylist.specs.Answers.{counts, checked_from}
+use Rattle.wire.specs.declared.refusal.Refusal.{Refusal}
 use Rattle.keys.proofs.Arrays.{set-padded, map-append}
 use Rattle.keys.proofs.Parsed.{parsed}
 
@@ -56,12 +61,12 @@ stored_here bytes at i k n p =
 pub record Read (bytes : List ℕ) (at : ℕ) (stored : List KeyState) (count : ℕ) : Type 0 where
   pub walk : GoodFrom bytes at
   pub done : List Configuration
-  pub whole : parse bytes ≡ good (done ++ walk.rest)
+  pub whole : parse bytes ≡ Ok (done ++ walk.rest)
   pub filled : stored ≡ padded most_configurations blank_key (map stored_key done)
   pub counted : count ≡ length done
 
 module _ (bytes : List ℕ) where
-  pub read_start : (cs : List Configuration) → parse bytes ≡ good cs
+  pub read_start : (cs : List Configuration) → parse bytes ≡ Ok cs
       → Read bytes (first_read bytes 0) (padded most_configurations blank_key []) 0
   unfolding walk_start
   read_start cs e =
@@ -108,3 +113,10 @@ module _ (bytes : List ℕ) where
     unfolding keys_from stored_keys
     read_end h =
         rw (r.whole, walk_end bytes at r.walk h, append-nil r.done, r.filled, r.counted)
+
+-- what is read of a list that check calls good
+pub read_of : (p : Result (List Configuration) Refusal) (skips : ℕ) (n : Counts) → Ok n ≡ checked_from p skips
+    → ◌≡◌ {A = Result KeysRead Refusal} (Ok (record { keys = keys_from p; counts = n })) (keys_of_parsed p skips)
+unfolding keys_from
+read_of (Ok cs) skips n e = let same : n ≡ counts (length cs) skips = cc in rw same refl
+read_of (Err r) skips n e = cc

@@ -2,35 +2,21 @@
 -- Assumes nothing.
 use mathlib.Core.Path.{◌≡◌, sym, ap, ◌∙◌}
 use mathlib.Core.List.{List, [], ◌∷◌, ◌++◌, map}
-use Prim.Native.Nat.{ℕ, suc, ◌+◌, ◌≤◌, ◌<◌, min}
+use Prim.Native.Nat.{ℕ, suc, ◌+◌, ◌<◌, min}
 use native.Mathlib.Omega.{arith}
-use borrow.Author.Tests.{ltb-true, ltb-false, lt-ltb, le-ltb}
-use lib.Dec.{ltb}
-use mir.Val.{Val}
-use denote.Laws.{Is}
 use lib.ListN.{length, get_or, take, set, length-map}
 use lib.Seq.{take-suc}
-use Rattle.wire.proofs.Booleans.{either}
 use Rattle.keys.specs.declared.KeyState.{KeyState}
 use Rattle.keys.specs.declared.Keys.{Keys}
 use Rattle.keys.specs.declared.KeyReport.{KeyReport}
 use Rattle.keylist.specs.Layout.{most_configurations}
 use Rattle.keys.specs.Keys.{report_of, blank_report, stored_reports, key_of, keys_of, padded}
 use Rattle.keys.specs.Helpers.{no_key, key_at}
-use Rattle.keys.specs.contracts.KeyState
-use Rattle.keys.specs.contracts.Keys
 use Rattle.keys.proofs.Arrays.{set-padded, map-append, length_stored, stored_at, take_min}
 
 -- what the code reads out of range
 abbrev pub unread : KeyState
 unread = record { count = 0; kem = 0; id = record { 0 = 0 }; retired = 0; pair_count = 0; pairs = [] }
-
--- the arrays of a struct that code holds have their length: owning the struct says so (`.good` of a parameter)
-pub full : (keys : Keys) (values : List Val) → Is Keys.the_row keys values → length keys.list ≡ 16
-full keys values is = is.1.1.0.1.0.1
-
-pub full_pairs : (key : KeyState) (values : List Val) → Is KeyState.the_row key values → length key.pairs ≡ 16
-full_pairs key values is = is.1.1.1.1.1.1.1.0.1.0.1
 
 -- the reports of the first keys of an array
 abbrev pub reports_of : ℕ → List KeyState → List KeyReport
@@ -40,15 +26,6 @@ module _ (keys : Keys) (whole : length keys.list ≡ 16) where
   pub length_keys : length (keys_of keys) ≡ min keys.count 16
   unfolding keys_of
   length_keys = length_stored key_of keys.count keys.list ∙ ap (min keys.count) whole
-
-  -- below the 16 places the count alone decides
-  pub below_most : (place : ℕ) → place < 16 → ltb place keys.count ≡ ltb place (length (keys_of keys))
-  below_most place h =
-      either (ltb place keys.count)
-      (λ e. let l : place < keys.count = ltb-true place keys.count e in
-      e ∙ sym (lt-ltb place (length (keys_of keys)) (omega (arith, length_keys))))
-      (λ e. let l : keys.count ≤ place = ltb-false place keys.count e in
-      e ∙ sym (le-ltb place (length (keys_of keys)) (omega (arith, length_keys))))
 
   -- the key at a place
   pub key-at : (place : ℕ) → place < length (keys_of keys) → key_at (keys_of keys) place ≡ key_of (get_or keys.list place unread)

@@ -2,11 +2,12 @@
 -- Assumes nothing.
 use mathlib.Core.Path.{◌≡◌, refl, sym, ap, ap₂, ◌∙◌}
 use mathlib.Core.List.{List, [], ◌∷◌, map}
+use Rattle.std.specs.Prelude.{Ok}
 use Prim.Native.Nat.{ℕ, ◌+◌, ◌-◌, ◌^◌, ◌≤◌, ◌<◌}
 use native.Mathlib.Omega.{arith}
 use lib.ListN.{length, get_or, take, set, length-map}
 use lib.Seq.{take-set-lt}
-use Rattle.keylist.specs.Layout.{Configuration, good, parse, most_configurations}
+use Rattle.keylist.specs.Layout.{Configuration, parse, most_configurations}
 use Rattle.keys.specs.declared.KeyState.{KeyState}
 use Rattle.keys.specs.declared.Keys.{Keys}
 use Rattle.keys.specs.Keys.{Key, fresh_key, with_use, with_retirement, key_of, keys_of, padded}
@@ -67,10 +68,10 @@ stored_view cs =
     ap (map key_of) counted ∙ stored_all cs
 
 -- the keys of a good list are its configurations, fresh; they are at most 16, and no key id stands twice
-pub parsed_view : (bytes : List ℕ) (cs : List Configuration) → parse bytes ≡ good cs
+pub parsed_view : (bytes : List ℕ) (cs : List Configuration) → parse bytes ≡ Ok cs
     → (keys_of (keys_from (parse bytes)) ≡ map fresh_key cs) × (length cs ≤ most_configurations)
 unfolding keys_from
 parsed_view bytes cs e = (rw e (stored_view cs), (parsed bytes cs e).few)
 
-pub parsed_distinct : (bytes : List ℕ) (cs : List Configuration) → parse bytes ≡ good cs → Distinct (ids cs)
+pub parsed_distinct : (bytes : List ℕ) (cs : List Configuration) → parse bytes ≡ Ok cs → Distinct (ids cs)
 parsed_distinct bytes cs e = (parsed bytes cs e).distinct

@@ -1,9 +1,10 @@
 -- 01's keys, "in list order, each with id, KEM, pairs, count and retirement": how one is looked up and changed, retire's refusals, and the
 -- keys that a gateway holds.
+use Rattle.std.specs.List.{list_any}
 use Rattle.std.specs.Prelude.{ℕ, ◌+◌, ◌-◌, Bool, true, false, not, List, [], ◌∷◌, ◌++◌, map, eqb, length, take, replicate}
 use Rattle.std.proofs.Math.Option.{Option}
 use Rattle.wire.specs.Tests.{pick, ◌and◌}
-use Rattle.wire.specs.Search.{any_passes, is_none, find, is_some_and}
+use Rattle.wire.specs.Search.{is_none, find, is_some_and}
 use Rattle.wire.specs.Refusals.{◌when◌otherwise◌}
 use Rattle.algorithms.specs.Sizes.{known_pair}
 use Rattle.keylist.specs.declared.Pair.{Pair}
@@ -32,7 +33,7 @@ key_with id keys = find (has_id id) keys
 
 -- the pair is known and listed for the key, both its numbers in one pair
 abbrev pub offers : ℕ → ℕ → Key → Bool
-offers kdf aead key = known_pair kdf aead and any_passes (is_pair kdf aead) key.pairs
+offers kdf aead key = known_pair kdf aead and list_any (is_pair kdf aead) key.pairs
 
 -- 01, "Order", retire: 4, 7; 0: no refusal
 unfoldable pub retire_refusal : Option Key → ℕ

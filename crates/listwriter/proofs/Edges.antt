@@ -1,9 +1,8 @@
 -- What is skipped is not written, and the list writer's numbers and places, computed.
 -- Assumes nothing.
 use mathlib.Core.Path.{refl}
-use mathlib.Core.List.{flat_map}
 use Rattle.wire.specs.Hex.{hex}
-use Rattle.wire.specs.Search.{any_passes, filtered, first_place}
+use Rattle.wire.specs.Search.{filtered, first_place}
 use Rattle.algorithms.specs.Sizes.{known_kem, public_key_length}
 use Rattle.algorithms.specs.Table.{row_of, table}
 use Rattle.keylist.specs.Answers.{starts_from}
@@ -13,7 +12,7 @@ use Rattle.listwriter.specs.Writer.{cut, encode, encode_behind, fault_of_given}
 use Rattle.listwriter.specs.Edges.{SkippedIsNotWritten, WriterFaults}
 
 pub skipped_is_not_written : SkippedIsNotWritten
-unfolding edge_list hex parse parse_from fault_of is_skipped configuration_at pairs_at known_kem public_key_length row_of table first_place any_passes filtered starts_from encode encode_behind fault_of_given cut flat_map
+unfolding edge_list hex parse parse_from fault_of is_skipped configuration_at pairs_at known_kem public_key_length row_of table first_place filtered starts_from encode encode_behind fault_of_given cut
 skipped_is_not_written =
     record {
       skipped = refl;
@@ -23,7 +22,7 @@ skipped_is_not_written =
     }
 
 pub writer_faults : WriterFaults
-unfolding encode encode_behind fault_of_given cut known_kem public_key_length row_of table first_place any_passes
+unfolding encode encode_behind fault_of_given cut known_kem public_key_length row_of table first_place
 writer_faults =
     record {
       none_given = refl;

@@ -1,13 +1,15 @@
 -- The list writer's definition as a walk over the flat fields, which is how the code goes: the first configuration, the fields behind it,
 -- and the bytes from an offset on. `Cutting` shows that both give the same.
 -- Assumes nothing.
+use Rattle.std.specs.Prelude.{Result, Ok, Err}
+use Rattle.wire.specs.declared.refusal.Refusal.{Refusal}
 use mathlib.Core.Path.{◌≡◌, refl}
 use mathlib.Core.Bool.{Bool, true, false, not}
 use mathlib.Core.List.{List, [], ◌∷◌, ◌++◌, append_assoc}
-use Prim.Native.Nat.{ℕ, suc, ◌+◌, ◌*◌, ◌<◌}
+use Prim.Native.Nat.{ℕ, zero, suc, ◌+◌, ◌*◌, ◌<◌}
 use native.Mathlib.Omega.{arith}
 use lib.Dec.{eqb, leb}
-use lib.ListN.{length, take, drop, length-append}
+use lib.ListN.{length, take, length-append}
 use lib.Seq.{length-take-le}
 use borrow.Author.Tests.{leb-true, leb-false, eqb-true, ne_eqb, not-false}
 use Rattle.wire.specs.Tests.{pick, ◌and◌}
@@ -17,67 +19,31 @@ use Rattle.wire.specs.Refusals.{◌when◌otherwise◌, refused_at}
 use Rattle.wire.proofs.Numbers.{not-refused}
 use Rattle.listwriter.proofs.Words.{words_length}
 use Rattle.algorithms.specs.Sizes.{known_kem, public_key_length}
-use Rattle.keylist.specs.Layout.{good, bad, key_start, most_configurations, pair_bytes_hold, unless_fault, Result}
+use Rattle.keylist.specs.Layout.{most_configurations, pair_bytes_hold, unless_fault}
 use Rattle.keylist.proofs.LayoutLaws.{both, PairBytes, pair-bytes}
 use Rattle.keylist.proofs.Parsing.{no_refusal}
-use Rattle.listwriter.specs.Writer.{Fields, fields, fault_of_given, first, none_left, configuration_bytes, words_bytes}
-
--- the first configuration
-abbrev pub first_kem : Fields → ℕ
-first_kem f = first f.kems
-
-abbrev pub first_key_length : Fields → ℕ
-first_key_length f = first f.key_lengths
-
-abbrev pub first_key : Fields → List ℕ
-first_key f = take (first_key_length f) f.keys
-
-abbrev pub first_pair_count : Fields → ℕ
-first_pair_count f = first f.pair_counts
-
-abbrev pub first_pairs : Fields → List ℕ
-first_pairs f = take (first_pair_count f) f.pairs
-
--- L
-abbrev pub length_of : ℕ → ℕ → ℕ
-length_of key_length pair_count = 5 + key_length + pair_count * 2
-
-abbrev pub first_length : Fields → ℕ
-first_length f = length_of (first_key_length f) (first_pair_count f)
-
-abbrev pub first_bytes : ℕ → Fields → List ℕ
-first_bytes key_id f =
-    configuration_bytes key_id (first_kem f) (first_key_length f) (first_key f) (first_pair_count f) (first_pairs f)
-
--- the fields behind it
-abbrev pub behind_first : Fields → Fields
-behind_first f =
-    fields (drop 1 f.kems) (drop 1 f.key_lengths) (drop (first_key_length f) f.keys) (drop 1 f.pair_counts)
-    (drop (first_pair_count f) f.pairs)
+use Rattle.listwriter.specs.Helpers.{first_length, first_bytes, fault_of_first, first_key_end}
+use Rattle.listwriter.specs.Writer.{Fields, first_kem, first_key_length, first_key, first_pair_count, first_pairs, behind_first, fault_of_given, none_left, words_bytes}
 
 -- bytes in front of those that follow
-abbrev pub in_front_of : List ℕ → Result (List ℕ) → Result (List ℕ)
-in_front_of bytes (good more) = good (bytes ++ more)
-in_front_of bytes (bad r) = bad r
+abbrev pub in_front_of : List ℕ → Result (List ℕ) Refusal → Result (List ℕ) Refusal
+in_front_of bytes (Ok more) = Ok (bytes ++ more)
+in_front_of bytes (Err r) = Err r
 
--- its first fault, where these key ids are taken, and where its public key would end
+-- its first fault, where these key ids are taken
 abbrev pub first_fault : List ℕ → ℕ → Fields → ℕ
-first_fault taken id f =
-    fault_of_given (length taken) (among taken id) (first_kem f) (first_key_length f) (length f.keys) (first_pair_count f) (length f.pairs)
-
-abbrev pub first_key_end : ℕ → Fields → ℕ
-first_key_end at f = key_start at + public_key_length (first_kem f)
+first_fault taken id f = fault_of_first (length taken) (among taken id) f
 
 -- the bytes of the configurations from an offset on, where these key ids are taken
-unfoldable pub encode_from : List ℕ → ℕ → List ℕ → Fields → Result (List ℕ)
-encode_from taken at [] f = pick (none_left f) (good []) (bad (refused_at 19 at))
+unfoldable pub encode_from : List ℕ → ℕ → List ℕ → Fields → Result (List ℕ) Refusal
+encode_from taken at [] f = pick (none_left f) (Ok []) (Err (refused_at 19 at))
 encode_from taken at (id ∷ ids) f =
     unless_fault at (first_key_end at f) (first_fault taken id f)
     (in_front_of (first_bytes id f) (encode_from (taken ++ id ∷ []) (at + 2 + first_length f) ids (behind_first f)))
 
 -- a list is one configuration or more
-unfoldable pub walk : List ℕ → Fields → Result (List ℕ)
-walk [] f = bad (refused_at 18 0)
+unfoldable pub walk : List ℕ → Fields → Result (List ℕ) Refusal
+walk [] f = Err (refused_at 18 0)
 walk (id ∷ ids) f = encode_from [] 0 (id ∷ ids) f
 
 pub same-fields : {f g : Fields} → f.kems ≡ g.kems → f.key_lengths ≡ g.key_lengths → f.keys ≡ g.keys → f.pair_counts ≡ g.pair_counts
@@ -138,8 +104,15 @@ pub none_of : (a b : List ℕ) → eqb (length (a ++ b)) 0 ≡ (eqb (length a) 0
 none_of [] b = refl
 none_of (n ∷ a) b = rw (ne_eqb (suc (length (a ++ b))) 0 (omega arith), ne_eqb (suc (length a)) 0 (omega arith))
 
+-- a result comes from no refusal, so there was no fault on its way
+pub front_given : (fault at end : ℕ) (front : List ℕ) (o : Result (List ℕ) Refusal) {bytes : List ℕ} → unless_fault at end fault (in_front_of front o) ≡ Ok bytes
+    → (rest : List ℕ) × (fault ≡ 0) × (o ≡ Ok rest) × (front ++ rest ≡ bytes)
+front_given zero at end front (Ok rest) e = (rest, refl, refl, cc)
+front_given zero at end front (Err r) e = no_refusal e
+front_given (suc n) at end front o e = no_refusal e
+
 -- a result comes from no refusal, so the tests on its way held
-pub end_given : {A : Type 0} (test : Bool) (at : ℕ) {found : List A} → pick test (good []) (bad (refused_at 19 at)) ≡ good found
+pub end_given : {A : Type 0} (test : Bool) (at : ℕ) {found : List A} → pick test (Ok []) (Err (refused_at 19 at)) ≡ Ok found
     → (test ≡ true) × ([] ≡ found)
 end_given true at e = (refl, cc)
 end_given false at e = no_refusal e

@@ -7,3 +7,4 @@ pub mod Edges
 pub mod FieldsWalk
 pub mod Writing
 pub mod Words
+pub mod Faults

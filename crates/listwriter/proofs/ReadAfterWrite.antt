@@ -1,8 +1,9 @@
 -- Reading by the layout gives back what was written: specs/Stated's ReadAfterWrite.
 -- Assumes nothing.
+use Rattle.std.specs.Prelude.{Ok}
 use mathlib.Core.Path.{◌≡◌, refl, sym, ap, ap₂, ◌∙◌}
 use mathlib.Core.Bool.{true, false}
-use mathlib.Core.List.{List, [], ◌∷◌, ◌++◌, append_assoc, flat_map}
+use mathlib.Core.List.{List, [], ◌∷◌, ◌++◌, append_assoc}
 use Prim.Native.Nat.{ℕ, zero, suc, ◌+◌, ◌*◌, ◌/◌, ◌≤◌}
 use native.Mathlib.Nat.{add_assoc, add-zero, div-add-mod'}
 use native.Mathlib.Omega.{arith}
@@ -11,18 +12,19 @@ use lib.ListN.{length, get_or, drop, take-append-drop, length-append, length-dro
 use lib.Seq.{take_at, drop_at, drop-drop, get_or-drop}
 use borrow.Author.Tests.{le-leb, eq-eqb, eqb-true}
 use Rattle.wire.specs.Bytes.{byte_at, word_at, word_bytes}
-use Rattle.wire.specs.Search.{any_passes, among}
+use Rattle.wire.specs.Search.{among}
 use Rattle.listwriter.proofs.Words.{words_length}
 use Rattle.wire.proofs.Booleans.{true_or_false}
 use Rattle.algorithms.specs.Sizes.{known_kem, public_key_length}
 use Rattle.algorithms.proofs.Stated.{known_numbers, size_bounds}
 use Rattle.keylist.specs.Before.{layout_holds}
-use Rattle.keylist.specs.Layout.{Configuration, good, bad, length_at, key_id_at, kem_at, key_start, key_end, pair_bytes_at, pairs_at, pairs_start, configuration_at, parse_from, parse, most_configurations, unless_fault, Result}
+use Rattle.keylist.specs.Layout.{Configuration, length_at, key_id_at, kem_at, key_start, key_end, pair_bytes_at, pairs_at, pairs_start, configuration_at, parse_from, parse, most_configurations}
 use Rattle.keylist.proofs.LayoutLaws.{both, held_not_skipped, holds}
 use Rattle.keylist.proofs.Parsing.{no_refusal, parse_end, parse_more, skips_end, skips_none, skips_from}
-use Rattle.listwriter.specs.Writer.{Fields, none_left, words_bytes}
+use Rattle.listwriter.specs.Writer.{Fields, none_left, words_bytes, first_kem, first_key_length, first_key, first_pair_count, first_pairs, behind_first}
 use Rattle.listwriter.specs.Stated.{pair_numbers, ids_of, as_fields, ReadAfterWrite}
-use Rattle.listwriter.proofs.FlatFields.{first_kem, first_key_length, first_key, first_pair_count, first_pairs, behind_first, first_length, first_bytes, first_fault, first_key_end, in_front_of, encode_from, walk, same-fields, First, first_says, behind_key, first_laid, first-laid, none_of, end_given}
+use Rattle.listwriter.specs.Helpers.{first_key_end, first_length, first_bytes}
+use Rattle.listwriter.proofs.FlatFields.{first_fault, encode_from, walk, same-fields, First, first_says, behind_key, first_laid, first-laid, none_of, front_given, end_given}
 use Rattle.listwriter.proofs.Cutting.{encode_is_walk}
 
 module _ (bytes : List ℕ) where
@@ -41,7 +43,7 @@ module _ (bytes : List ℕ) where
 
   pairs-there : (n at : ℕ) (numbers rest : List ℕ) → drop at bytes ≡ words_bytes numbers ++ rest → length numbers ≡ n * 2
       → pair_numbers (pairs_at n bytes at) ≡ numbers
-  unfolding pairs_at flat_map
+  unfolding pairs_at
   pairs-there zero at [] rest h e = refl
   pairs-there zero at (a ∷ numbers) rest h e = absurd (omega arith)
   pairs-there (suc n) at [] rest h e = absurd (omega arith)
@@ -61,13 +63,12 @@ first_and_rest [] h = absurd (h refl)
 first_and_rest (n ∷ numbers) h = refl
 
 unknown_zero : known_kem 0 ≡ false
-unfolding any_passes
 unknown_zero = known_numbers.kem 0
 
 -- reading from an offset gives key ids and fields back
 abbrev ReadBack : ℕ → List ℕ → List ℕ → ℕ → List ℕ → Fields → Type 0
 ReadBack more taken bytes at ids f =
-    (cs : List Configuration) × (parse_from more taken bytes at ≡ good cs) × (skips_from more bytes at ≡ 0) × (ids_of cs ≡ ids) × (as_fields cs ≡ f)
+    (cs : List Configuration) × (parse_from more taken bytes at ≡ Ok cs) × (skips_from more bytes at ≡ 0) × (ids_of cs ≡ ids) × (as_fields cs ≡ f)
 
 module _ (bytes : List ℕ) (at id : ℕ) (f : Fields) (rest : List ℕ) (says : First f) (there : drop at bytes ≡ first_laid id f rest) where
   size_read : length_at bytes at ≡ first_length f
@@ -119,7 +120,7 @@ module _ (bytes : List ℕ) (at id : ℕ) (f : Fields) (rest : List ℕ) (says :
       (rw (eq-eqb (first_length f) (5 + public_key_length (first_kem f) + first_pair_count f * 2) sum) pairs_hold)
 
   fields_read : (cs : List Configuration) → as_fields cs ≡ behind_first f → as_fields (configuration_at bytes at ∷ cs) ≡ f
-  unfolding configuration_at flat_map
+  unfolding configuration_at
   fields_read cs e =
       let (known, (_, (key, (_, pairs)))) = says in
       same-fields
@@ -141,20 +142,12 @@ module _ (bytes : List ℕ) (at id : ℕ) (f : Fields) (rest : List ℕ) (says :
     fields_read cs same_fields,
   )
 
--- a result comes from no refusal, so there was no fault on its way
-front_given : (fault at end : ℕ) (front : List ℕ) (o : Result (List ℕ)) {bytes : List ℕ} → unless_fault at end fault (in_front_of front o) ≡ good bytes
-    → (rest : List ℕ) × (fault ≡ 0) × (o ≡ good rest) × (front ++ rest ≡ bytes)
-front_given zero at end front (good rest) e = (rest, refl, refl, cc)
-front_given zero at end front (bad r) e = no_refusal e
-front_given (suc n) at end front o e = no_refusal e
-
 -- where nothing is left
 empty : (numbers : List ℕ) → eqb (length numbers) 0 ≡ true → [] ≡ numbers
 empty [] e = refl
 empty (n ∷ numbers) e = absurd (omega (arith, eqb-true (length (n ∷ numbers)) 0 e))
 
 none-left : (f : Fields) → none_left f ≡ true → as_fields [] ≡ f
-unfolding flat_map
 none-left f h =
     let pairs = both (empty f.pair_counts) (empty f.pairs) in
     let each = both (empty f.kems) (both (empty f.key_lengths) (both (empty f.keys) pairs)) in
@@ -163,7 +156,7 @@ none-left f h =
 
 -- reading from an offset gives back what was written there
 read-from : (more : ℕ) (taken bytes : List ℕ) (at : ℕ) (ids : List ℕ) (f : Fields)
-    → length taken + more ≡ most_configurations → encode_from taken at ids f ≡ good (drop at bytes) → ReadBack more taken bytes at ids f
+    → length taken + more ≡ most_configurations → encode_from taken at ids f ≡ Ok (drop at bytes) → ReadBack more taken bytes at ids f
 unfolding encode_from configuration_at
 read-from more taken bytes at [] f few e =
     let (none, nothing) = end_given (none_left f) at e in
@@ -180,7 +173,7 @@ read-from (suc more) taken bytes at (id ∷ ids) f few e =
     let there = sym front ∙ first-laid id f rest in
     let next = rest_read bytes at id f rest says there in
     read_first bytes at id f rest says there more taken ids fresh
-    (read-from more (taken ++ id ∷ []) bytes (at + 2 + first_length f) ids (behind_first f) (rw length-append (omega (arith, few))) (encoded ∙ ap good (sym next)))
+    (read-from more (taken ++ id ∷ []) bytes (at + 2 + first_length f) ids (behind_first f) (rw length-append (omega (arith, few))) (encoded ∙ ap Ok (sym next)))
 
 pub read_after_write : ReadAfterWrite
 unfolding walk parse

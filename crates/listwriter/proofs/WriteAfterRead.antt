@@ -1,8 +1,10 @@
 -- Writing what was read by the layout gives the same bytes, where none was skipped: specs/Stated's WriteAfterRead.
 -- Assumes nothing.
+use Rattle.std.specs.Prelude.{flat_map, Result, Ok}
+use Rattle.wire.specs.declared.refusal.Refusal.{Refusal}
 use mathlib.Core.Path.{◌≡◌, refl, sym, ◌∙◌}
 use mathlib.Core.Bool.{true, false}
-use mathlib.Core.List.{List, [], ◌∷◌, ◌++◌, flat_map}
+use mathlib.Core.List.{List, [], ◌∷◌, ◌++◌}
 use Prim.Native.Nat.{ℕ, zero, suc, ◌+◌, ◌*◌, ◌/◌, ◌%◌, ◌≤◌, ◌<◌}
 use native.Mathlib.Nat.{add_assoc, add-zero}
 use native.Mathlib.Numerals.{add-one}
@@ -12,14 +14,15 @@ use lib.ListN.{length, drop, take-append-drop, length-append, length-drop, drop_
 use lib.Seq.{length-take-le, take-append_seam, drop-append_seam, drop-drop, drop-cons}
 use borrow.Author.Tests.{le-leb, lt-leb, eq-eqb}
 use Rattle.wire.specs.Bytes.{byte_at, word_at, word_bytes, part}
-use Rattle.listwriter.specs.Writer.{fault_of_given, words_bytes}
+use Rattle.listwriter.specs.Writer.{fault_of_given, words_bytes, behind_first}
 use Rattle.wire.specs.Search.{among}
 use Rattle.algorithms.specs.Sizes.{known_kem, public_key_length}
-use Rattle.keylist.specs.Layout.{Configuration, good, length_at, key_id_at, kem_at, key_start, key_end, pair_bytes_at, pairs_at, pairs_start, next_start, configuration_at, pair_bytes_hold, parse_from, parse, most_configurations, Result}
+use Rattle.keylist.specs.Layout.{Configuration, length_at, key_id_at, kem_at, key_start, key_end, pair_bytes_at, pairs_at, pairs_start, next_start, configuration_at, pair_bytes_hold, parse_from, parse, most_configurations}
 use Rattle.keylist.proofs.LayoutLaws.{Holds, held_not_skipped}
 use Rattle.keylist.proofs.Parsing.{by_reading, holding, no_refusal, not_taken, skips_from, skips_one, skips_none}
 use Rattle.listwriter.specs.Stated.{AreBytes, pair_numbers, ids_of, as_fields, WriteAfterRead}
-use Rattle.listwriter.proofs.FlatFields.{behind_first, first_length, first_bytes, first_fault, encode_from, walk, same-fields, first-laid}
+use Rattle.listwriter.specs.Helpers.{first_length, first_bytes}
+use Rattle.listwriter.proofs.FlatFields.{first_fault, encode_from, walk, same-fields, first-laid}
 use Rattle.listwriter.proofs.Cutting.{encode_is_walk}
 
 module _ (bytes : List ℕ) where
@@ -31,7 +34,7 @@ module _ (bytes : List ℕ) where
   part_back at n = rw (← drop-drop n at bytes) (sym (take-append-drop n (drop at bytes)))
 
   pairs_length : (n at : ℕ) → length (pair_numbers (pairs_at n bytes at)) ≡ n * 2
-  unfolding pairs_at flat_map
+  unfolding pairs_at
   pairs_length zero at = refl
   pairs_length (suc n) at = omega (arith, pairs_length n (at + 4))
 
@@ -44,7 +47,7 @@ module _ (bytes : List ℕ) where
 
     pairs_back : (n at : ℕ) → at + n * 4 ≤ length bytes
         → drop at bytes ≡ words_bytes (pair_numbers (pairs_at n bytes at)) ++ drop (at + n * 4) bytes
-    unfolding pairs_at flat_map
+    unfolding pairs_at
     pairs_back zero at h = rw add-zero
     pairs_back (suc n) at h =
         let end : at + suc n * 4 ≡ at + 4 + n * 4 = omega arith in
@@ -56,7 +59,6 @@ enough front rest = le-leb (length front) (length (front ++ rest)) (rw length-ap
 
 module _ (c : Configuration) (cs : List Configuration) where
   behind-first : behind_first (as_fields (c ∷ cs)) ≡ as_fields cs
-  unfolding flat_map
   behind-first =
       same-fields refl refl (drop-append_seam c.public_key (flat_map (λ c. c.public_key) cs)) refl
       (drop-append_seam (pair_numbers c.pairs) (flat_map (λ c. pair_numbers c.pairs) cs))
@@ -64,7 +66,7 @@ module _ (c : Configuration) (cs : List Configuration) where
   first_holds : known_kem c.kem ≡ true → length c.public_key ≡ public_key_length c.kem
       → pair_bytes_hold (length (pair_numbers c.pairs) * 2) ≡ true
       → (taken : List ℕ) → length taken < most_configurations → among taken c.key_id ≡ false → first_fault taken c.key_id (as_fields (c ∷ cs)) ≡ 0
-  unfolding fault_of_given flat_map
+  unfolding fault_of_given
   first_holds known key pairs taken few fresh =
       rw (
         lt-leb most_configurations (length taken) few,
@@ -103,7 +105,7 @@ module _ (bytes : List ℕ) (all : AreBytes bytes) (at : ℕ) (says : Holds byte
   size_written = omega (arith, key-length, pairs_size)
 
   bytes_written : drop at bytes ≡ first_bytes (key_id_at bytes at) (as_fields (configuration_at bytes at ∷ cs)) ++ drop (next_start bytes at) bytes
-  unfolding configuration_at flat_map
+  unfolding configuration_at
   bytes_written =
       rw (
         first-laid (key_id_at bytes at) (as_fields (configuration_at bytes at ∷ cs)) (drop (next_start bytes at) bytes),
@@ -116,21 +118,21 @@ module _ (bytes : List ℕ) (all : AreBytes bytes) (at : ℕ) (says : Holds byte
       head_written
 
   write_first : (taken : List ℕ) → length taken < most_configurations → among taken (key_id_at bytes at) ≡ false
-      → encode_from (taken ++ key_id_at bytes at ∷ []) (next_start bytes at) (ids_of cs) (as_fields cs) ≡ good (drop (next_start bytes at) bytes)
-      → encode_from taken at (ids_of (configuration_at bytes at ∷ cs)) (as_fields (configuration_at bytes at ∷ cs)) ≡ good (drop at bytes)
+      → encode_from (taken ++ key_id_at bytes at ∷ []) (next_start bytes at) (ids_of cs) (as_fields cs) ≡ Ok (drop (next_start bytes at) bytes)
+      → encode_from taken at (ids_of (configuration_at bytes at ∷ cs)) (as_fields (configuration_at bytes at ∷ cs)) ≡ Ok (drop at bytes)
   unfolding encode_from configuration_at
   write_first taken few fresh encoded =
       let none = first_holds (configuration_at bytes at) cs says.kem key-length (rw pairs_size says.pairs.0) taken few fresh in
       rw (bytes_written, none, size_written, behind-first (configuration_at bytes at) cs, encoded)
 
 -- writing what was read from an offset gives the bytes from there on
-write_from : (bytes : List ℕ) (more : ℕ) (taken : List ℕ) (at : ℕ) (cs : List Configuration) → AreBytes bytes → parse_from more taken bytes at ≡ good cs
-    → length taken + more ≡ most_configurations → skips_from more bytes at ≡ 0 → encode_from taken at (ids_of cs) (as_fields cs) ≡ good (drop at bytes)
-unfolding encode_from flat_map
+write_from : (bytes : List ℕ) (more : ℕ) (taken : List ℕ) (at : ℕ) (cs : List Configuration) → AreBytes bytes → parse_from more taken bytes at ≡ Ok cs
+    → length taken + more ≡ most_configurations → skips_from more bytes at ≡ 0 → encode_from taken at (ids_of cs) (as_fields cs) ≡ Ok (drop at bytes)
+unfolding encode_from
 write_from bytes more taken at cs all =
     by_reading bytes
     (λ more taken at cs.
-    length taken + more ≡ most_configurations → skips_from more bytes at ≡ 0 → encode_from taken at (ids_of cs) (as_fields cs) ≡ good (drop at bytes))
+    length taken + more ≡ most_configurations → skips_from more bytes at ≡ 0 → encode_from taken at (ids_of cs) (as_fields cs) ≡ Ok (drop at bytes))
     (λ more taken at h few none. rw (drop_of_length-le bytes h))
     (λ more taken at cs k parsed written few none. absurd (omega (arith, none, skips_one more bytes at k)))
     (λ more taken at cs g parsed written few none.
@@ -140,10 +142,10 @@ write_from bytes more taken at cs all =
     more taken at cs
 
 pub write_after_read : WriteAfterRead
-unfolding walk parse encode_from flat_map
+unfolding walk parse encode_from
 write_after_read [] cs all none e = no_refusal e
 write_after_read (b ∷ bytes) [] all none e =
-    let written : ◌≡◌ {A = Result (List ℕ)} (good []) (good (b ∷ bytes)) = write_from (b ∷ bytes) most_configurations [] 0 [] all e refl none in
+    let written : ◌≡◌ {A = Result (List ℕ) Refusal} (Ok []) (Ok (b ∷ bytes)) = write_from (b ∷ bytes) most_configurations [] 0 [] all e refl none in
     absurd (let z : ◌≡◌ {A = ℕ} 0 1 = cc in omega arith)
 write_after_read (b ∷ bytes) (c ∷ cs) all none e =
     encode_is_walk (ids_of (c ∷ cs)) (as_fields (c ∷ cs)) ∙ write_from (b ∷ bytes) most_configurations [] 0 (c ∷ cs) all e refl none

@@ -1,9 +1,8 @@
 -- What holds of reading and writing key lists together.
-use Rattle.std.specs.Prelude.{ℕ, ◌<◌, ◌≡◌, length, get_or}
-use mathlib.Core.List.{List, [], ◌∷◌, map, flat_map}
+use Rattle.std.specs.Prelude.{ℕ, ◌<◌, ◌≡◌, List, [], ◌∷◌, map, flat_map, length, get_or, Ok}
 use Rattle.keylist.specs.declared.Pair.{Pair}
 use Rattle.keylist.specs.Answers.{skipped_in}
-use Rattle.keylist.specs.Layout.{Configuration, good, parse}
+use Rattle.keylist.specs.Layout.{Configuration, parse}
 use Rattle.listwriter.specs.Writer.{Fields, fields, encode}
 
 -- each element is a byte, as every element of a lent slice is
@@ -31,11 +30,11 @@ NoneSkipped bytes = skipped_in bytes ≡ 0
 -- "reading by the layout rules gives them back": every field that was written, and nothing that would be skipped
 abbrev pub ReadAfterWrite : Type 0
 ReadAfterWrite =
-    (ids : List ℕ) (f : Fields) (bytes : List ℕ) → encode ids f ≡ good bytes
-    → (cs : List Configuration) × (parse bytes ≡ good cs) × NoneSkipped bytes × (ids_of cs ≡ ids) × (as_fields cs ≡ f)
+    (ids : List ℕ) (f : Fields) (bytes : List ℕ) → encode ids f ≡ Ok bytes
+    → (cs : List Configuration) × (parse bytes ≡ Ok cs) × NoneSkipped bytes × (ids_of cs ≡ ids) × (as_fields cs ≡ f)
 
 -- "writing what was read gives the same bytes"
 abbrev pub WriteAfterRead : Type 0
 WriteAfterRead =
-    (bytes : List ℕ) (cs : List Configuration) → AreBytes bytes → NoneSkipped bytes → parse bytes ≡ good cs
-    → encode (ids_of cs) (as_fields cs) ≡ good bytes
+    (bytes : List ℕ) (cs : List Configuration) → AreBytes bytes → NoneSkipped bytes → parse bytes ≡ Ok cs
+    → encode (ids_of cs) (as_fields cs) ≡ Ok bytes

@@ -2,41 +2,27 @@
 // key bytes of all, how many pair numbers each has, and the pair numbers of all, KDF and AEAD by turns.
 #![tactic(auto)]
 
-ghost use Rattle.std.specs.Prelude.{◌≡◌, ◌+◌, ◌*◌, ◌≤◌, ◌<◌, leb, length, get_or};
+ghost use Rattle.std.specs.Prelude.{◌≡◌, ◌+◌, ◌*◌, ◌≤◌, IsOkAnd, leb, length, drop};
 ghost use Rattle.wire.specs.Tests.{◌and◌};
+ghost use Rattle.wire.specs.Bytes.{word_bytes};
 ghost use Rattle.wire.specs.Helpers.{overwritten};
-ghost use Rattle.algorithms.specs.Sizes.{public_key_length};
-ghost use Rattle.algorithms.specs.Stated.{size_bound};
-ghost use Rattle.keylist.specs.Layout.{key_start, pair_bytes_hold, refused_for};
-ghost use Rattle.listwriter.specs.Writer.{fields, fault_of_given, none_left, configuration_bytes, encode, written_in, written_to, words_bytes};
-ghost use Rattle.listwriter.specs.Helpers.{walk_bound, fault_at, fields_from, length_written, Fitting};
+ghost use Rattle.keylist.specs.Layout.{pair_bytes_hold};
+ghost use Rattle.listwriter.specs.Writer.{fields, first_kem, first_key_length, first_pair_count, behind_first, none_left, encode, written_in, written_to, words_bytes};
+ghost use Rattle.keylist.specs.Helpers.{number_or_0};
+ghost use Rattle.listwriter.specs.Helpers.{walk_bound, fields_of, first_length, first_bytes, HasSizes, fault_of_first, first_checked, length_written};
 
+use algorithms::Kem;
 use keylist::check::{
     MOST_CONFIGURATIONS, MOST_PAIR_BYTES, field_at_fault, key_length, pair_bytes_hold,
 };
 use wire::bytes::overwrite;
-use wire::refusal::Refusal;
-use wire::search::has_byte;
+use wire::refusal::{Reason, Refusal};
 
-// The length of the list that was written, or the refusal.
-#[derive(Clone, Copy)]
-pub enum Written {
-    Length(usize),
-    Refused(Refusal),
-}
-
-// The number at an index, 0 where there is none.
-fn number_at(numbers: &[usize], at: usize) -> usize
-    ensures { result ≡ get_or numbers.now at 0 }
+// The items behind the first so many; none where there are fewer.
+fn behind<T>(items: &[T], count: usize) -> &[T]
+    ensures { result.now ≡ drop count items.now }
 {
-    if at < numbers.len() { numbers[at] } else { 0 }
-}
-
-// The KEM at an index, 0 where there is none.
-fn kem_at(kems: &[u16], at: usize) -> u16
-    ensures { result ≡ get_or kems.now at 0 }
-{
-    if at < kems.len() { kems[at] } else { 0 }
+    items.get(count..).unwrap_or(&[])
 }
 
 // So many pair numbers may be in one configuration, and are there.
@@ -44,58 +30,16 @@ fn pairs_hold(count: usize, left: usize) -> bool
     ensures { result ≡ (pair_bytes_hold (count * 2) and leb count left) }
 {
     // This bound comes first, so that the product behind it cannot wrap.
-    if MOST_PAIR_BYTES < count {
-        return false;
-    }
-    if !pair_bytes_hold(count * 2) {
-        return false;
-    }
-    count <= left
+    count <= MOST_PAIR_BYTES && pair_bytes_hold(count * 2) && count <= left
 }
 
-// The first fault of a configuration that is given behind so many others, 0 where there is none, with what is left of the key bytes and
-// the pair numbers.
-fn fault(
-    before: usize,
-    is_taken: bool,
-    kem: u16,
-    key: usize,
-    keys_left: usize,
-    pair_count: usize,
-    pairs_left: usize,
-) -> u8
-    ensures { result ≡ fault_of_given before is_taken kem key keys_left pair_count pairs_left }
+// A number as two bytes at an offset of a buffer that has room for it. It copies an array of two: `overwrite`, which learns their number when it runs,
+// would call memcpy for each.
+fn write_word(buffer: &mut [u8], at: usize, word: u16)
+    requires { at + 2 ≤ length buffer.old }
+    ensures { buffer.new ≡ overwritten buffer.old at (word_bytes word) }
 {
-    if MOST_CONFIGURATIONS <= before {
-        return Refusal::TOO_MANY_CONFIGURATIONS;
-    }
-    let right = key_length(kem);
-    if right == 0 {
-        return Refusal::UNKNOWN_KEM;
-    }
-    if key != right {
-        return Refusal::LENGTH_MISMATCH;
-    }
-    if keys_left < key {
-        return Refusal::LENGTH_MISMATCH;
-    }
-    if !pairs_hold(pair_count, pairs_left) {
-        return Refusal::BAD_PAIR_LENGTH;
-    }
-    if is_taken {
-        Refusal::DUPLICATE_KEY_ID
-    } else {
-        0
-    }
-}
-
-// The refusal of a configuration that would start at an offset, for a fault. It asks for an offset as the walk has them, so that no sum wraps.
-fn refused(at: usize, kem: u16, number: u8) -> Written
-    requires { at ≤ walk_bound }
-    ensures { result ≡ Written.Refused (refused_for at (key_start at + public_key_length kem) number) }
-{
-    let end = 5 + key_length(kem);
-    Written::Refused(Refusal::at(number, at + field_at_fault(end, number)))
+    buffer[at..at + 2].copy_from_slice(&word.to_be_bytes());
 }
 
 // Numbers, two bytes each, from an offset of a buffer that has room for them.
@@ -103,203 +47,164 @@ fn write_words(buffer: &mut [u8], at: usize, words: &[u16])
     requires { at + length words.now * 2 ≤ length buffer.old }
     ensures { buffer.new ≡ overwritten buffer.old at (words_bytes words.now) }
 {
-    let mut done = 0;
-    while done < words.len() {
-        let word = words[done];
+    for (done, word) in words.iter().enumerate() {
+        write_word(buffer, at + done * 2, *word);
+    }
+}
+
+// Configurations as they are given, or what is left of them behind some, without their key ids: the slices that `write` takes.
+#[derive(Clone, Copy)]
+struct Configurations<'a> {
+    kems: &'a [u16],
+    key_lengths: &'a [usize],
+    keys: &'a [u8],
+    pair_counts: &'a [usize],
+    pairs: &'a [u16],
+}
+
+impl<'a> Configurations<'a> {
+    // No field is left.
+    fn is_empty(&self) -> bool
+        ensures { result ≡ none_left (fields_of self.now) }
+    {
+        self.kems.is_empty()
+            && self.key_lengths.is_empty()
+            && self.keys.is_empty()
+            && self.pair_counts.is_empty()
+            && self.pairs.is_empty()
+    }
+
+    // The KEM of the first, 0 where there is none.
+    fn first_kem(&self) -> u16
+        ensures { result ≡ first_kem (fields_of self.now) }
+    {
+        self.kems.first().copied().unwrap_or(0)
+    }
+
+    // Its public key length as announced, 0 where there is none.
+    fn first_key_length(&self) -> usize
+        ensures { result ≡ first_key_length (fields_of self.now) }
+    {
+        self.key_lengths.first().copied().unwrap_or(0)
+    }
+
+    // How many pair numbers are announced for it, 0 where there is none.
+    fn first_pair_count(&self) -> usize
+        ensures { result ≡ first_pair_count (fields_of self.now) }
+    {
+        self.pair_counts.first().copied().unwrap_or(0)
+    }
+
+    // How many bytes it makes. It asks for sizes as the layout allows them, so that no sum wraps.
+    fn first_size(&self) -> usize
+        requires { HasSizes (fields_of self.now) }
+        ensures { result ≡ 2 + first_length (fields_of self.now) }
+    {
+        7 + self.first_key_length() + self.first_pair_count() * 2
+    }
+
+    // Writes it with its key id from an offset of a buffer that has room for it.
+    fn write_first(&self, buffer: &mut [u8], at: usize, id: u8)
+        requires sizes { HasSizes (fields_of self.now) }
+        requires room { at + 2 + first_length (fields_of self.now) ≤ length buffer.old }
+        ensures { buffer.new ≡ overwritten buffer.old at (first_bytes id (fields_of self.now)) }
+    {
+        let key_length = self.first_key_length();
+        let pair_count = self.first_pair_count();
+        let length = (5 + key_length + pair_count * 2) as u16;
+        let [length_high, length_low] = length.to_be_bytes();
+        let [kem_high, kem_low] = self.first_kem().to_be_bytes();
         overwrite(
             buffer,
-            at + done * 2,
-            &[(word / 256) as u8, (word % 256) as u8],
+            at,
+            &[length_high, length_low, id, kem_high, kem_low],
         );
-        done += 1;
+        overwrite(buffer, at + 5, &self.keys[..key_length]);
+        write_word(buffer, at + 5 + key_length, (pair_count * 2) as u16);
+        write_words(buffer, at + 7 + key_length, &self.pairs[..pair_count]);
     }
-}
 
-// One configuration from an offset of a buffer that has room for it.
-fn write_configuration(buffer: &mut [u8], at: usize, id: u8, kem: u16, key: &[u8], pairs: &[u16])
-    requires { (length key.now ≤ size_bound) × (length pairs.now ≤ 32)
-        × (at + 7 + length key.now + length pairs.now * 2 ≤ length buffer.old) }
-    ensures { buffer.new ≡ overwritten buffer.old at
-        (configuration_bytes id kem (length key.now) key.now (length pairs.now) pairs.now) }
-{
-    let pair_bytes = pairs.len() * 2;
-    let length = 5 + key.len() + pair_bytes;
-    let head = [
-        (length / 256) as u8,
-        (length % 256) as u8,
-        id,
-        (kem / 256) as u8,
-        (kem % 256) as u8,
-    ];
-    overwrite(buffer, at, &head);
-    overwrite(buffer, at + 5, key);
-    overwrite(
-        buffer,
-        at + 5 + key.len(),
-        &[(pair_bytes / 256) as u8, (pair_bytes % 256) as u8],
-    );
-    write_words(buffer, at + 7 + key.len(), pairs);
-}
-
-// Where the walk over the fields stands: the next configuration's index, its offset in the list, and where its key bytes and
-// its pair numbers start.
-#[derive(Clone, Copy)]
-struct Cursor {
-    index: usize,
-    at: usize,
-    key_at: usize,
-    pair_at: usize,
-}
-
-impl Cursor {
-    fn start() -> Self
-        ensures { (result.index ≡ 0) × (result.at ≡ 0) × (result.key_at ≡ 0) × (result.pair_at ≡ 0) }
+    // What is left behind it.
+    fn behind_first(&self) -> Configurations<'a>
+        ensures { fields_of result ≡ behind_first (fields_of self.now) }
     {
-        Cursor {
-            index: 0,
-            at: 0,
-            key_at: 0,
-            pair_at: 0,
+        Configurations {
+            kems: behind(self.kems, 1),
+            key_lengths: behind(self.key_lengths, 1),
+            keys: behind(self.keys, self.first_key_length()),
+            pair_counts: behind(self.pair_counts, 1),
+            pairs: behind(self.pairs, self.first_pair_count()),
         }
     }
 
-    // The cursor behind a configuration with so many key bytes and pair numbers. It asks for the bounds that a configuration
-    // which keeps the layout's rules has, so that no sum wraps.
-    fn next(self, key: usize, pair_count: usize) -> Self
-        requires { (self.index < 16) × (self.at ≤ walk_bound) × (self.key_at ≤ walk_bound) × (self.pair_at ≤ walk_bound)
-            × (key ≤ size_bound) × (pair_count ≤ 32) }
-        ensures { (result.index ≡ self.index + 1) × (result.at ≡ self.at + 2 + (5 + key + pair_count * 2))
-            × (result.key_at ≡ self.key_at + key) × (result.pair_at ≡ self.pair_at + pair_count) }
+    // Its first fault, if it has one, where so many stand before it and its key id is taken or not.
+    #[tactic(auto, using(crate::proofs::Faults::faults))]
+    fn first_fault(&self, before: usize, is_taken: bool) -> Option<Reason>
+        ensures { number_or_0 result ≡ fault_of_first before is_taken (fields_of self.now) }
     {
-        Cursor {
-            index: self.index + 1,
-            at: self.at + 7 + key + pair_count * 2,
-            key_at: self.key_at + key,
-            pair_at: self.pair_at + pair_count,
+        if MOST_CONFIGURATIONS <= before {
+            return Some(Reason::TooManyConfigurations);
+        }
+        let Some(right) = Kem(self.first_kem()).public_key_length() else {
+            return Some(Reason::UnknownKem);
+        };
+        let key = self.first_key_length();
+        if key != right || self.keys.len() < key {
+            return Some(Reason::LengthMismatch);
+        }
+        if !pairs_hold(self.first_pair_count(), self.pairs.len()) {
+            return Some(Reason::BadPairLength);
+        }
+        is_taken.then_some(Reason::DuplicateKeyId)
+    }
+
+    // The same with the place of the fault, where it would start at an offset. It asks for an offset as the walk has them, so that no sum wraps.
+    fn check_first(&self, at: usize, before: usize, is_taken: bool) -> Result<(), Refusal>
+        requires { at ≤ walk_bound }
+        ensures { result ≡ first_checked at before is_taken (fields_of self.now) }
+    {
+        match self.first_fault(before, is_taken) {
+            None => Ok(()),
+            Some(reason) => {
+                let end = 5 + key_length(self.first_kem());
+                Err(reason.at(at + field_at_fault(end, reason.number())))
+            }
         }
     }
-}
-
-// The first fault of the configuration at the cursor, 0 where there is none. The walk keeps the cursor inside the fields, which is why this
-// may ask for it.
-fn fault_at(
-    ids: &[u8],
-    kems: &[u16],
-    key_lengths: &[usize],
-    keys: &[u8],
-    pair_counts: &[usize],
-    pairs: &[u16],
-    cursor: Cursor,
-) -> u8
-    requires { (cursor.index < length ids.now) × (cursor.key_at ≤ length keys.now)
-        × (cursor.pair_at ≤ length pairs.now) }
-    ensures { result ≡ fault_at ids.now
-        (fields kems.now key_lengths.now keys.now pair_counts.now pairs.now)
-        cursor.index cursor.key_at cursor.pair_at }
-{
-    let index = cursor.index;
-    fault(
-        index,
-        has_byte(&ids[..index], ids[index]),
-        kem_at(kems, index),
-        number_at(key_lengths, index),
-        keys.len() - cursor.key_at,
-        number_at(pair_counts, index),
-        pairs.len() - cursor.pair_at,
-    )
-}
-
-// No field is left over behind the cursor.
-fn none_left(
-    kems: &[u16],
-    key_lengths: &[usize],
-    keys: &[u8],
-    pair_counts: &[usize],
-    pairs: &[u16],
-    cursor: Cursor,
-) -> bool
-    ensures { result ≡ none_left (fields_from
-        (fields kems.now key_lengths.now keys.now pair_counts.now pairs.now)
-        cursor.index cursor.key_at cursor.pair_at) }
-{
-    if cursor.index < kems.len() {
-        return false;
-    }
-    if cursor.index < key_lengths.len() {
-        return false;
-    }
-    if cursor.key_at < keys.len() {
-        return false;
-    }
-    if cursor.index < pair_counts.len() {
-        return false;
-    }
-    pairs.len() <= cursor.pair_at
 }
 
 // The length of the list that the fields make, or the first fault with its place.
-fn list_length(
-    ids: &[u8],
-    kems: &[u16],
-    key_lengths: &[usize],
-    keys: &[u8],
-    pair_counts: &[usize],
-    pairs: &[u16],
-) -> Written
-    ensures { result ≡ length_written (encode ids.now
-        (fields kems.now key_lengths.now keys.now pair_counts.now pairs.now)) }
+fn list_length(ids: &[u8], given: Configurations<'_>) -> Result<usize, Refusal>
+    ensures { result ≡ length_written (encode ids.now (fields_of given.entry)) }
 {
-    if ids.len() == 0 {
-        return Written::Refused(Refusal::at(Refusal::LIST_TRUNCATED, 0));
+    if ids.is_empty() {
+        return Err(Reason::ListTruncated.at(0));
     }
-    let mut cursor = Cursor::start();
-    while cursor.index < ids.len() {
-        let index = cursor.index;
-        let number = fault_at(ids, kems, key_lengths, keys, pair_counts, pairs, cursor);
-        if number != 0 {
-            return refused(cursor.at, kem_at(kems, index), number);
-        }
-        cursor = cursor.next(number_at(key_lengths, index), number_at(pair_counts, index));
+    let mut at = 0;
+    let mut rest = given;
+    for (before, id) in ids.iter().enumerate() {
+        rest.check_first(at, before, ids[..before].contains(id))?;
+        at += rest.first_size();
+        rest = rest.behind_first();
     }
-    if none_left(kems, key_lengths, keys, pair_counts, pairs, cursor) {
-        Written::Length(cursor.at)
+    if rest.is_empty() {
+        Ok(at)
     } else {
-        Written::Refused(Refusal::at(Refusal::LENGTH_MISMATCH, cursor.at))
+        Err(Reason::LengthMismatch.at(at))
     }
 }
 
 // Writes the list that the fields make into a buffer that has room for it.
-fn write_all(
-    ids: &[u8],
-    kems: &[u16],
-    key_lengths: &[usize],
-    keys: &[u8],
-    pair_counts: &[usize],
-    pairs: &[u16],
-    buffer: &mut [u8],
-)
-    requires { Fitting
-        (encode ids.now (fields kems.now key_lengths.now keys.now pair_counts.now pairs.now))
-        (length buffer.old) }
-    ensures { buffer.new ≡ written_to buffer.old (encode ids.now
-        (fields kems.now key_lengths.now keys.now pair_counts.now pairs.now)) }
+fn write_all(ids: &[u8], given: Configurations<'_>, buffer: &mut [u8])
+    requires { IsOkAnd (encode ids.now (fields_of given)) (λ bytes. length bytes ≤ length buffer.old) }
+    ensures { buffer.new ≡ written_to buffer.old (encode ids.now (fields_of given.entry)) }
 {
-    let mut cursor = Cursor::start();
-    while cursor.index < ids.len() {
-        let index = cursor.index;
-        let key_at = cursor.key_at;
-        let key = number_at(key_lengths, index);
-        let pair_at = cursor.pair_at;
-        let pair_count = number_at(pair_counts, index);
-        write_configuration(
-            buffer,
-            cursor.at,
-            ids[index],
-            kem_at(kems, index),
-            &keys[key_at..key_at + key],
-            &pairs[pair_at..pair_at + pair_count],
-        );
-        cursor = cursor.next(key, pair_count);
+    let mut at = 0;
+    let mut rest = given;
+    for id in ids {
+        rest.write_first(buffer, at, *id);
+        at += rest.first_size();
+        rest = rest.behind_first();
     }
 }
 
@@ -312,20 +217,23 @@ pub fn write(
     pair_counts: &[usize],
     pairs: &[u16],
     buffer: &mut [u8],
-) -> Written
+) -> Result<usize, Refusal>
     ensures value { result ≡ written_in (length buffer.old) (encode ids.now
         (fields kems.now key_lengths.now keys.now pair_counts.now pairs.now)) }
     ensures buffer_after { buffer.new ≡ written_to buffer.old (encode ids.now
         (fields kems.now key_lengths.now keys.now pair_counts.now pairs.now)) }
 {
-    match list_length(ids, kems, key_lengths, keys, pair_counts, pairs) {
-        Written::Length(length) => {
-            if buffer.len() < length {
-                return Written::Refused(Refusal::of(Refusal::NO_ROOM));
-            }
-            write_all(ids, kems, key_lengths, keys, pair_counts, pairs, buffer);
-            Written::Length(length)
-        }
-        Written::Refused(refusal) => Written::Refused(refusal),
+    let given = Configurations {
+        kems,
+        key_lengths,
+        keys,
+        pair_counts,
+        pairs,
+    };
+    let length = list_length(ids, given)?;
+    if buffer.len() < length {
+        return Err(Reason::NoRoom.into());
     }
+    write_all(ids, given, buffer);
+    Ok(length)
 }

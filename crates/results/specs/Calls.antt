@@ -1,10 +1,8 @@
--- The answers of setup and of the six calls, as a host gets them.
-use Rattle.std.specs.Prelude.{◌≡◌, ℕ, Bool, true, false, List, []}
+-- The answers of the six calls, as a host gets them; setup's is `number_result`.
+use Rattle.std.specs.Prelude.{◌≡◌, ℕ, Bool, true, false, List, [], Result, Ok, Err}
+use Rattle.wire.specs.declared.refusal.Refusal.{Refusal}
 use Rattle.exchange.specs.declared.StepAnswer.{StepAnswer}
 use Rattle.keys.specs.Keys.{stored_reports}
-use Rattle.gateway.specs.declared.SetupAnswer.{SetupAnswer}
-use Rattle.gateway.specs.declared.AdmitAnswer.{AdmitAnswer}
-use Rattle.gateway.specs.declared.RetireAnswer.{RetireAnswer}
 use Rattle.gateway.specs.declared.Report.{Report}
 use Rattle.gateway.specs.declared.admission.Admission.{Admission}
 use Rattle.gateway.specs.declared.admission.AdmitRefusal.{AdmitRefusal}
@@ -18,11 +16,6 @@ use Rattle.results.specs.declared.gateway_calls.AdmitResult.{AdmitResult}
 use Rattle.results.specs.declared.gateway_calls.ReportResult.{ReportResult}
 use Rattle.results.specs.Outcome.{sends, refused_by, sent, with_number, refused_number}
 
--- the number of keys
-abbrev pub setup_result : SetupAnswer → NumberResult
-setup_result (SetupAnswer.Ready keys) = with_number keys
-setup_result (SetupAnswer.Refused r) = refused_number r
-
 -- the problem type of an unprotected answer: 1 is ohttp-key (RFC 9458, 5.3), 0 is none
 abbrev pub problem_type : Bool → ℕ
 problem_type true = 1
@@ -32,21 +25,24 @@ problem_type false = 0
 abbrev pub refused_admit : AdmitRefusal → Outcome
 refused_admit r = record { number = r.number; has_place = false; place = 0; status = r.status; problem = problem_type r.key_problem }
 
--- of an answer to a call on a ticket: the status that is sent, of a failed opening or of a sealed response; and a number, 1 where the exchange is
+-- of an accepted call on a ticket: the status that is sent, of a failed opening or of a sealed response; and a number, 1 where the exchange is
 -- opened now, the encapsulated length of a sealed response
-abbrev pub ticket_result : StepAnswer → NumberResult
-ticket_result StepAnswer.Opened = sent 0 1
-ticket_result (StepAnswer.Failed status) = sent status 0
-ticket_result (StepAnswer.Sealed s) = sent s.status s.length
-ticket_result StepAnswer.Abandoned = sent 0 0
-ticket_result (StepAnswer.Refused r) = refused_number r
+abbrev pub accepted_step : StepAnswer → NumberResult
+accepted_step StepAnswer.Opened = sent 0 1
+accepted_step (StepAnswer.Failed status) = sent status 0
+accepted_step (StepAnswer.Sealed s) = sent s.status s.length
+accepted_step StepAnswer.Abandoned = sent 0 0
+
+abbrev pub ticket_result : Result StepAnswer Refusal → NumberResult
+ticket_result (Ok a) = accepted_step a
+ticket_result (Err r) = refused_number r
 
 -- an answer's refusal, and the status that it sends
 abbrev pub outcome_of : Answer → Outcome
-outcome_of (of_admit (AdmitAnswer.Admitted a)) = sends 0
-outcome_of (of_admit (AdmitAnswer.Refused r)) = refused_admit r
-outcome_of (of_retire RetireAnswer.Retired) = sends 0
-outcome_of (of_retire (RetireAnswer.Refused r)) = refused_by r
+outcome_of (of_admit (Ok a)) = sends 0
+outcome_of (of_admit (Err r)) = refused_admit r
+outcome_of (of_retire (Ok done)) = sends 0
+outcome_of (of_retire (Err r)) = refused_by r
 outcome_of (of_step a) = (ticket_result a).outcome
 outcome_of (of_report r) = sends 0
 
@@ -65,8 +61,8 @@ no_admission =
     }
 
 abbrev pub admission_in : Answer → Admission
-admission_in (of_admit (AdmitAnswer.Admitted a)) = a
-admission_in (of_admit (AdmitAnswer.Refused r)) = no_admission
+admission_in (of_admit (Ok a)) = a
+admission_in (of_admit (Err r)) = no_admission
 admission_in (of_retire r) = no_admission
 admission_in (of_step r) = no_admission
 admission_in (of_report r) = no_admission

@@ -1,10 +1,7 @@
-// What hosts get of the libraries' answers: each as a plain struct that begins with its outcome. `gateway_calls` decides of one key and one exchange, as
-// the exports need it; `by_value` makes the calls on a gateway by value.
+// What hosts get of the libraries' answers: each as a plain struct that begins with its outcome, by a conversion from the answer.
 #![tactic(auto)]
 
-pub mod by_value;
 pub mod client_calls;
 pub mod gateway_calls;
-pub mod list_calls;
 pub mod message_calls;
 pub mod outcome;

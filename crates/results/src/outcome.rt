@@ -1,13 +1,15 @@
-// What every answer begins with.
-ghost use Rattle.std.specs.Prelude.{◌≡◌};
+// What every answer begins with, and the results that are an outcome with a number or two.
+ghost use Rattle.std.specs.Prelude.{◌≡◌, MatchResult};
 ghost use Rattle.results.specs.Outcome.{sends, refused_by, sent, with_number, refused_number, with_two_numbers, refused_two_numbers};
 
+use keylist::Counts;
 use wire::refusal::Refusal;
+use wire::span::Span;
 
 // The refusal number, 0 where the call is accepted; whether the refusal has a place, and its place; the HTTP status to send, 0 where
-// nothing is sent; the problem type of an unprotected answer.
+// nothing is sent; the problem type of an unprotected answer. Number, flag and place are no Option or enum: the struct is C's.
 #[repr(C)]
-#[derive(Clone, Copy)]
+#[derive(Clone, Copy, Default)]
 pub struct Outcome {
     pub number: u8,
     pub has_place: bool,
@@ -27,31 +29,29 @@ impl Outcome {
         ensures { result ≡ sends status }
     {
         Outcome {
-            number: 0,
-            has_place: false,
-            place: 0,
             status,
-            problem: Outcome::NO_PROBLEM,
+            ..Outcome::default()
         }
     }
+}
 
-    // A refusal that sends nothing.
-    pub(crate) fn refused(refusal: Refusal) -> Self
-        ensures { result ≡ refused_by refusal }
-    {
+// A refusal that sends nothing.
+impl From<Refusal> for Outcome {
+    ghost from_gives = { λ refusal outcome. outcome ≡ refused_by refusal };
+
+    fn from(refusal: Refusal) -> Outcome {
         Outcome {
             number: refusal.number,
-            has_place: refusal.has_place,
-            place: refusal.place,
-            status: 0,
-            problem: Outcome::NO_PROBLEM,
+            has_place: refusal.place.is_some(),
+            place: refusal.place.unwrap_or(0),
+            ..Outcome::default()
         }
     }
 }
 
 // An outcome and a number, 0 on refusal.
 #[repr(C)]
-#[derive(Clone, Copy)]
+#[derive(Clone, Copy, Default)]
 pub struct NumberResult {
     pub outcome: Outcome,
     pub number: u64,
@@ -62,53 +62,84 @@ impl NumberResult {
     pub(crate) fn sent(status: u16, number: u64) -> Self
         ensures { result ≡ sent status number }
     {
-        let outcome = Outcome::sends(status);
-        NumberResult { outcome, number }
+        NumberResult {
+            outcome: Outcome::sends(status),
+            number,
+        }
     }
+}
 
-    pub(crate) fn of(number: usize) -> Self
-        ensures { result ≡ with_number number }
-    {
+impl From<usize> for NumberResult {
+    ghost from_gives = { λ number result. result ≡ with_number number };
+
+    fn from(number: usize) -> NumberResult {
         NumberResult::sent(0, number as u64)
     }
+}
 
-    pub(crate) fn refused(refusal: Refusal) -> Self
-        ensures { result ≡ refused_number refusal }
-    {
-        let outcome = Outcome::refused(refusal);
-        NumberResult { outcome, number: 0 }
+impl<T: Into<NumberResult>> From<Result<T, Refusal>> for NumberResult {
+    ghost from_gives = { λ answer result. MatchResult answer (λ value. T.Into.converts value result)
+        (λ refusal. result ≡ refused_number refusal) };
+
+    fn from(answer: Result<T, Refusal>) -> NumberResult {
+        match answer {
+            Ok(value) => value.into(),
+            Err(refusal) => NumberResult {
+                outcome: refusal.into(),
+                ..NumberResult::default()
+            },
+        }
     }
 }
 
 // An outcome and two numbers, 0 on refusal.
 #[repr(C)]
-#[derive(Clone, Copy)]
+#[derive(Clone, Copy, Default)]
 pub struct TwoNumbersResult {
     pub outcome: Outcome,
     pub first: usize,
     pub second: usize,
 }
 
-impl TwoNumbersResult {
-    pub(crate) fn of(first: usize, second: usize) -> Self
-        ensures { result ≡ with_two_numbers first second }
-    {
-        let outcome = Outcome::sends(0);
+impl From<(usize, usize)> for TwoNumbersResult {
+    ghost from_gives = { λ numbers result. result ≡ with_two_numbers numbers.0 numbers.1 };
+
+    fn from((first, second): (usize, usize)) -> TwoNumbersResult {
         TwoNumbersResult {
-            outcome,
             first,
             second,
+            ..TwoNumbersResult::default()
         }
     }
+}
 
-    pub(crate) fn refused(refusal: Refusal) -> Self
-        ensures { result ≡ refused_two_numbers refusal }
-    {
-        let outcome = Outcome::refused(refusal);
-        TwoNumbersResult {
-            outcome,
-            first: 0,
-            second: 0,
+impl From<Span> for TwoNumbersResult {
+    ghost from_gives = { λ span result. result ≡ with_two_numbers span.start span.end };
+
+    fn from(span: Span) -> TwoNumbersResult {
+        (span.start, span.end).into()
+    }
+}
+
+impl From<Counts> for TwoNumbersResult {
+    ghost from_gives = { λ counts result. result ≡ with_two_numbers counts.read counts.skipped };
+
+    fn from(counts: Counts) -> TwoNumbersResult {
+        (counts.read, counts.skipped).into()
+    }
+}
+
+impl<T: Into<TwoNumbersResult>> From<Result<T, Refusal>> for TwoNumbersResult {
+    ghost from_gives = { λ answer result. MatchResult answer (λ value. T.Into.converts value result)
+        (λ refusal. result ≡ refused_two_numbers refusal) };
+
+    fn from(answer: Result<T, Refusal>) -> TwoNumbersResult {
+        match answer {
+            Ok(value) => value.into(),
+            Err(refusal) => TwoNumbersResult {
+                outcome: refusal.into(),
+                ..TwoNumbersResult::default()
+            },
         }
     }
 }

@@ -6,18 +6,16 @@ ghost use Rattle.gateway.specs.Gateway.{fresh_gateway, gateway_does};
 ghost use Rattle.gateway.specs.Calls.{admit, retire, on_ticket};
 ghost use Rattle.sealwax.specs.Calls.{filled, gateway_after_line};
 
-use crate::lines;
-use crate::output::OutputBuffer;
-use crate::parts::{FILL, MOST_ROOM, room_of};
-use crate::text::{put_answer, put_buffer, put_byte, put_form, put_short};
-use exchange::Move;
+use crate::hex::Hex;
+use crate::lines::{Line, Name};
+use crate::output::Output;
+use crate::parts::{FILL, MOST_ROOM, front_of, room_of};
+use exchange::{Move, Ticket};
+use gateway::Gateway;
 use gateway::table::Engine;
-use gateway::{Gateway, change};
-use keylist::check::MOST_CONFIGURATIONS;
-use keys::KeyReport;
-use results::gateway_calls::AdmitResult;
-use results::outcome::NumberResult;
-use results::{by_value, gateway_calls};
+use keylist::KeyId;
+use results::gateway_calls::{AdmitResult, ReportResult};
+use results::outcome::{NumberResult, Outcome};
 
 // A call, but for its bytes, which stand beside it: setup's list, admit's request, respond's enc and nonce.
 #[derive(Clone, Copy)]
@@ -33,255 +31,160 @@ pub(crate) enum Call {
     Report,
 }
 
-// The line names a call of the gateway.
-pub(crate) fn is_of_gateway(name: u64) -> bool {
-    match name {
-        lines::SETUP
-        | lines::ADMIT
-        | lines::OPEN
-        | lines::RESPOND
-        | lines::ABANDON
-        | lines::RETIRE
-        | lines::REPORT => true,
-        _ => false,
+// The call of a line, where it is one on the gateway.
+pub(crate) fn call_of(line: Line) -> Option<Call> {
+    let [first, second, third, ..] = line.numbers;
+    match line.name {
+        Name::Setup => Some(Call::Setup(first)),
+        Name::Admit => Some(Call::Admit(first)),
+        Name::Open => Some(Call::Step(first, opening(line.is_first, second), 0)),
+        Name::Respond => Some(Call::Step(first, Move::Respond(second), third)),
+        Name::Abandon => Some(Call::Step(first, Move::Abandon, 0)),
+        Name::Retire => Some(Call::Retire((first % 256) as u8)),
+        Name::Report => Some(Call::Report),
+        _ => None,
     }
 }
 
-// The call of such a line, by its first three numbers.
-pub(crate) fn call_of(name: u64, first: u64, second: u64, third: u64) -> Call {
-    match name {
-        lines::SETUP => Call::Setup(first),
-        lines::ADMIT => Call::Admit(first),
-        lines::OPEN => Call::Step(first, opening(second, third), 0),
-        lines::RESPOND => Call::Step(first, Move::Respond(second), third),
-        lines::ABANDON => Call::Step(first, Move::Abandon, 0),
-        lines::RETIRE => Call::Retire((first % 256) as u8),
-        _ => Call::Report,
-    }
-}
-
-fn opening(res: u64, n: u64) -> Move {
-    if res == lines::OK {
-        Move::Open(n)
+// How opening went, with a length where it went well.
+fn opening(is_ok: bool, length: u64) -> Move {
+    if is_ok {
+        Move::Open(length)
     } else {
         Move::Fail
     }
 }
 
-// The engine after a line, by the line's first number.
-pub(crate) fn engine_after(engine: u64, name: u64, first: u64) -> u64 {
-    if name == lines::ENGINE { first } else { engine }
-}
-
-pub(crate) fn engine_of(number: u64) -> Engine {
-    if number == lines::PLAIN {
-        Engine::Plain
-    } else {
-        Engine::Fast
+// The engine after a line.
+pub(crate) fn engine_after(engine: Engine, line: Line) -> Engine {
+    if line.name != Name::Engine {
+        return engine;
     }
-}
-
-// The gateway after a line, and the place behind the answer.
-#[derive(Clone, Copy)]
-pub(crate) struct Answered {
-    pub gateway: Gateway,
-    pub end: usize,
+    if line.is_first {
+        Engine::Fast
+    } else {
+        Engine::Plain
+    }
 }
 
 // Makes a call by an engine, and puts its answer.
 pub(crate) fn answer(
-    gateway: Gateway,
+    gateway: &mut Gateway,
     engine: Engine,
     call: Call,
     bytes: &[u8],
     nonce: &[u8],
-    out: &mut OutputBuffer,
-    at: usize,
-) -> Answered
-    ensures { result.gateway ≡ gateway_after_line engine gateway call bytes.now nonce.now }
+    out: &mut Output,
+)
+    ensures { gateway.new ≡ gateway_after_line engine gateway.old call bytes.now nonce.now }
 {
     match call {
-        Call::Setup(cap) => setup(bytes, cap, out, at),
-        Call::Admit(room) => admit(gateway, engine, bytes, room, out, at),
+        Call::Setup(cap) => setup(gateway, bytes, cap, out),
+        Call::Admit(room) => admit(gateway, engine, bytes, room, out),
         Call::Step(ticket, asks, room) => step(
-            gateway, engine, ticket, asks, bytes, nonce, room, out, at,
+            gateway, engine, ticket, asks, bytes, nonce, room, out,
         ),
-        Call::Retire(key_id) => retire(gateway, key_id, out, at),
-        Call::Report => Answered {
-            gateway,
-            end: report(gateway, out, at),
-        },
+        Call::Retire(key_id) => retire(gateway, key_id, out),
+        Call::Report => report(gateway.report().into(), out),
     }
 }
 
-fn setup(list: &[u8], cap: u64, out: &mut OutputBuffer, at: usize) -> Answered
-    ensures { result.gateway ≡ fresh_gateway list.now cap }
+fn setup(gateway: &mut Gateway, list: &[u8], cap: u64, out: &mut Output)
+    ensures { gateway.new ≡ fresh_gateway list.now cap }
 {
-    let done = gateway_calls::setup(list, cap);
-    let gateway = done.gateway;
-    let result = done.result;
-    Answered {
-        gateway,
-        end: put_short(out, at, result.outcome, b"ready keys=%", result.number, 0),
-    }
+    let fresh = Gateway::setup(list, cap);
+    *gateway = fresh.gateway;
+    let result = NumberResult::from(fresh.answer);
+    out.answer(result.outcome, format_args!("ready keys={}", result.number));
 }
 
-fn admit(
-    gateway: Gateway,
-    engine: Engine,
-    request: &[u8],
-    room: u64,
-    out: &mut OutputBuffer,
-    at: usize,
-) -> Answered
-    ensures { result.gateway ≡ (gateway_does engine gateway (admit request.now (filled room))).state }
+#[tactic(auto, using(crate::proofs::Lending::part_filled))]
+fn admit(gateway: &mut Gateway, engine: Engine, request: &[u8], room: u64, out: &mut Output)
+    ensures { gateway.new ≡ (gateway_does engine gateway.old (admit request.now (filled room))).state }
 {
-    let front = 0;
     let room = room_of(room, MOST_ROOM);
     let mut info = [FILL; MOST_ROOM];
-    let done = by_value::admit(gateway, engine, request, &mut info[front..room]);
-    let end = put_admitted(out, at, done.result);
-    let change = done.change;
-    Answered {
-        gateway: change::put(gateway, change),
-        end: put_buffer(out, end, &info, room),
-    }
+    let answer = gateway.admit(engine, request, &mut info[..room]);
+    admitted(answer.into(), out);
+    out.print(format_args!(" buffer={}", Hex(front_of(&info, room))));
 }
 
-fn put_admitted(out: &mut OutputBuffer, at: usize, res: AdmitResult) -> usize {
-    put_answer(
-        out,
-        at,
-        res.outcome,
-        b"admitted ticket=% key=% kdf=# aead=# enc=%..% ciphertext=%..%",
-        &[
-            res.ticket,
-            res.key_id as u64,
-            res.kdf as u64,
-            res.aead as u64,
-            res.enc_start as u64,
-            res.enc_end as u64,
-            res.ciphertext_start as u64,
-            res.ciphertext_end as u64,
-        ],
-    )
+fn admitted(admission: AdmitResult, out: &mut Output) {
+    out.answer(
+        admission.outcome,
+        format_args!(
+            "admitted ticket={} key={} kdf={:04x} aead={:04x} enc={}..{} ciphertext={}..{}",
+            admission.ticket,
+            admission.key_id,
+            admission.kdf,
+            admission.aead,
+            admission.enc_start,
+            admission.enc_end,
+            admission.ciphertext_start,
+            admission.ciphertext_end,
+        ),
+    );
 }
 
+#[tactic(auto, using(crate::proofs::Lending::part_filled))]
 fn step(
-    gateway: Gateway,
+    gateway: &mut Gateway,
     engine: Engine,
     ticket: u64,
     asks: Move,
     enc: &[u8],
     nonce: &[u8],
     room: u64,
-    out: &mut OutputBuffer,
-    at: usize,
-) -> Answered
-    ensures { result.gateway ≡ (gateway_does engine gateway
+    out: &mut Output,
+)
+    ensures { gateway.new ≡ (gateway_does engine gateway.old
         (on_ticket ticket (step asks enc.now nonce.now (filled room)))).state }
 {
-    let front = 0;
     let room = room_of(room, MOST_ROOM);
     let mut salt = [FILL; MOST_ROOM];
-    let done = by_value::step(
-        gateway,
-        engine,
-        ticket,
-        asks,
-        enc,
-        nonce,
-        &mut salt[front..room],
-    );
-    let end = put_step(out, at, asks, done.result, &salt, room);
-    let change = done.change;
-    Answered {
-        gateway: change::put(gateway, change),
-        end,
-    }
+    let answer = gateway.step(engine, Ticket(ticket), asks, enc, nonce, &mut salt[..room]);
+    stepped(asks, answer.into(), front_of(&salt, room), out);
 }
 
-fn put_step(
-    out: &mut OutputBuffer,
-    at: usize,
-    asks: Move,
-    res: NumberResult,
-    salt: &[u8; MOST_ROOM],
-    room: usize,
-) -> usize {
+fn stepped(asks: Move, sent: NumberResult, salt: &[u8], out: &mut Output) {
+    let outcome = sent.outcome;
+    let status = outcome.status;
     match asks {
-        Move::Open(_) => put_sent(out, at, res, b"opened"),
-        Move::Fail => put_sent(out, at, res, b"failed status=%"),
+        Move::Open(_) => out.answer(outcome, "opened"),
+        Move::Fail => out.answer(outcome, format_args!("failed status={status}")),
         Move::Respond(_) => {
-            let end = put_sent(out, at, res, b"sealed status=% length=%");
-            put_buffer(out, end, salt, room)
+            out.answer(
+                outcome,
+                format_args!("sealed status={status} length={}", sent.number),
+            );
+            out.print(format_args!(" buffer={}", Hex(salt)));
         }
-        Move::Abandon => put_sent(out, at, res, b"abandoned"),
+        Move::Abandon => out.answer(outcome, "abandoned"),
     }
 }
 
-// The answer whose numbers are the status that is sent and the length.
-fn put_sent(out: &mut OutputBuffer, at: usize, res: NumberResult, form: &[u8]) -> usize {
-    let outcome = res.outcome;
-    put_short(out, at, outcome, form, outcome.status as u64, res.number)
-}
-
-fn retire(gateway: Gateway, key_id: u8, out: &mut OutputBuffer, at: usize) -> Answered
-    ensures { (engine : Engine) → result.gateway ≡ (gateway_does engine gateway (retire key_id)).state }
+fn retire(gateway: &mut Gateway, key_id: u8, out: &mut Output)
+    ensures { (engine : Engine) → gateway.new ≡ (gateway_does engine gateway.old (retire key_id)).state }
 {
-    let done = by_value::retire(gateway, key_id);
-    let end = put_short(out, at, done.result, b"retired", 0, 0);
-    let change = done.change;
-    Answered {
-        gateway: change::put(gateway, change),
-        end,
-    }
+    out.answer(Outcome::from(gateway.retire(KeyId(key_id))), "retired");
 }
 
-fn report(gateway: Gateway, out: &mut OutputBuffer, at: usize) -> usize {
-    let result = by_value::report(gateway);
-    let keys = result.keys;
-    let end = put_form(
-        out,
-        at,
-        b"report last=% pending=% keys=",
-        &[result.last_ticket, result.pending as u64],
-    );
-    put_keys(out, end, keys, result.key_count)
-}
-
-fn put_keys(
-    out: &mut OutputBuffer,
-    at: usize,
-    keys: [KeyReport; MOST_CONFIGURATIONS],
-    count: usize,
-) -> usize {
-    if count == 0 {
-        return put_byte(out, at, b'-');
+fn report(report: ReportResult, out: &mut Output) {
+    out.print(format_args!(
+        "report last={} pending={} keys=",
+        report.last_ticket, report.pending
+    ));
+    let mut separator = "";
+    for key in front_of(&report.keys, report.key_count) {
+        out.print(format_args!(
+            "{separator}{}:{}:{}",
+            key.id.0,
+            key.count,
+            if key.retired { "retired" } else { "live" },
+        ));
+        separator = ",";
     }
-    let mut end = at;
-    let mut done = 0;
-    while done < count {
-        if MOST_CONFIGURATIONS <= done {
-            break;
-        }
-        end = put_key(out, end, keys[done]);
-        done += 1;
+    if report.key_count == 0 {
+        out.print("-");
     }
-    std::num::wrapping_sub_usize(end, 1)
-}
-
-fn put_key(out: &mut OutputBuffer, at: usize, key: KeyReport) -> usize {
-    put_form(
-        out,
-        at,
-        b"%:%:?retired?live?,",
-        &[
-            key.id.0 as u64,
-            key.count as u64,
-            key.retired as u64,
-            !key.retired as u64,
-            1,
-        ],
-    )
 }

@@ -2,35 +2,33 @@
 #![tactic(auto)]
 
 mod client_lines;
+mod codes;
 mod failure;
 mod gateway_lines;
+mod hex;
 mod input;
 mod lines;
 mod message_lines;
 mod output;
 mod parts;
-mod text;
 mod words;
 mod write_lines;
 
 use crate::failure::Failure;
-use crate::gateway_lines::{call_of, engine_after, engine_of, is_of_gateway};
-use crate::input::{INPUT_SIZE, Input, InputBuffer, MOST_LINE, NO_LINE, set};
+use crate::input::Input;
 use crate::lines::Line;
-use crate::output::{OUTPUT_SIZE, OutputBuffer, ended, written};
-use crate::parts::part_of;
-use crate::write_lines::put_write;
+use crate::output::Output;
 use gateway::Gateway;
+use gateway::table::Engine;
 use std::io::{Read, Write};
 use std::process::ExitCode;
-use wire::bytes::byte_at;
 
 fn main(rt: HostRuntime) -> ExitCode {
-    let mut bytes = [0u8; INPUT_SIZE];
-    let mut out = [0u8; OUTPUT_SIZE];
+    let mut input = Input::new();
+    let mut out = Output::new();
     let mut stdin = rt.stdin();
     let mut stdout = rt.stdout();
-    match replay(&mut stdin, &mut stdout, &mut bytes, &mut out) {
+    match replay(&mut stdin, &mut stdout, &mut input, &mut out) {
         Ok(()) => ExitCode::SUCCESS,
         Err(failure) => {
             let _ = rt.eprintln(failure);
@@ -44,43 +42,42 @@ fn main(rt: HostRuntime) -> ExitCode {
 fn replay<R: Read, W: Write>(
     reader: &mut R,
     writer: &mut W,
-    bytes: &mut InputBuffer,
-    out: &mut OutputBuffer,
+    input: &mut Input,
+    out: &mut Output,
 ) -> Result<(), Failure> {
     let mut gateway = first_gateway();
-    let mut engine = lines::FAST;
-    let mut input = Input::new();
-    let mut at = 0;
+    let mut engine = Engine::Fast;
     for _ in 0..u64::MAX {
-        let end = input.line_end(bytes);
-        if end == NO_LINE {
-            at = written(writer, out, at)?;
+        let Some(end) = input.line_end() else {
+            out.flush(writer)?;
             if input.ended {
                 break;
             }
-            input = input.more(reader, bytes)?;
+            input.more(reader)?;
+            continue;
+        };
+        let start = input.start;
+        input.pass(end);
+        let number = input.lines;
+        let bytes = &mut input.bytes[start..end];
+        if is_empty(bytes) {
             continue;
         }
-        let line = read_line(input.start, end, bytes);
-        input = input.passed(end);
-        engine = engine_after(engine, line.name, line.first);
-        if is_of_gateway(line.name) {
-            let shared = &bytes[..];
-            let answered = gateway_lines::answer(
-                gateway,
-                engine_of(engine),
-                call_of(line.name, line.first, line.second, line.third),
-                part_of(shared, line.start, line.end),
-                part_of(shared, line.second_start, line.second_end),
-                out,
-                at,
-            );
-            gateway = answered.gateway;
-            at = ended(writer, out, at, answered.end)?;
-        } else {
-            let end = answer(line, input.lines, end, bytes, out, at);
-            at = ended(writer, out, at, end)?;
+        match Line::read(bytes) {
+            None => out.print(format_args!("bad line {number}")),
+            Some(line) => {
+                engine = gateway_lines::engine_after(engine, line);
+                match gateway_lines::call_of(line) {
+                    Some(call) => {
+                        let first = line.parts[0].of(bytes);
+                        let second = line.parts[1].of(bytes);
+                        gateway_lines::answer(&mut gateway, engine, call, first, second, out);
+                    }
+                    None => client_lines::answer(line, number, bytes, out),
+                }
+            }
         }
+        out.end_answer(writer)?;
     }
     Ok(())
 }
@@ -92,49 +89,7 @@ fn first_gateway() -> Gateway {
     gateway
 }
 
-// What the line from a place of the buffer up to another says. Its bytes are decoded in the buffer.
-fn read_line(start: usize, end: usize, bytes: &mut [u8]) -> Line {
-    let front = 0;
-    let name = name_of(start, end, bytes);
-    if name != lines::WRITE {
-        return Line::new(name, 0);
-    }
-    set(bytes, end, b' ');
-    if bytes.len() <= end {
-        return Line::new(lines::NOTHING, 0);
-    }
-    lines::read(&mut bytes[front..end + 1], start)
-}
-
-// NOTHING for a line that is empty or a comment, NO_CALL for one that is too long, and else another.
-fn name_of(start: usize, end: usize, bytes: &[u8]) -> u64 {
-    if end <= start {
-        return lines::NOTHING;
-    }
-    if byte_at(bytes, start) == b'#' {
-        return lines::NOTHING;
-    }
-    if MOST_LINE < end - start {
-        return lines::NO_CALL;
-    }
-    lines::WRITE
-}
-
-// Answers a line that leaves the gateway alone, of a number, which ends at a place of the buffer.
-fn answer(
-    line: Line,
-    number: u64,
-    end: usize,
-    bytes: &mut [u8],
-    out: &mut OutputBuffer,
-    at: usize,
-) -> usize {
-    let front = 0;
-    if line.name != lines::WRITE {
-        return client_lines::answer(line, number, bytes, out, at);
-    }
-    if bytes.len() <= end {
-        return at;
-    }
-    put_write(line, number, &mut bytes[front..end + 1], out, at)
+// The line is empty or a comment.
+fn is_empty(line: &[u8]) -> bool {
+    matches!(line, [] | [b'#', ..])
 }

@@ -1,43 +1,103 @@
 // Standard output, through a buffer: the answers that wait to be written stand at its front.
+ghost use Rattle.std.specs.Prelude.{◌≤◌};
+
 use crate::failure::Failure;
-use crate::text::put_byte;
-use std::io::Write;
+use results::outcome::Outcome;
+use std::{fmt, io};
 
 // The buffer has room for the longest answer, of `split` or `request`, behind as much as waits in it before a line.
-pub(crate) const OUTPUT_SIZE: usize = 262144;
+const OUTPUT_SIZE: usize = 262144;
 
 const MOST_WAITING: usize = 65536;
 
-pub(crate) type OutputBuffer = [u8; OUTPUT_SIZE];
-
-// Where what waits ends once a line is answered from a place up to an end: behind a newline, where it has an answer. Much that waits is written.
-pub(crate) fn ended<W: Write>(
-    writer: &mut W,
-    out: &mut OutputBuffer,
-    at: usize,
+// The bytes of the buffer up to `end` wait, and the answer to the line at hand starts at `start`.
+#[derive(Drop)]
+pub(crate) struct Output {
+    bytes: [u8; OUTPUT_SIZE],
+    start: usize,
     end: usize,
-) -> Result<usize, Failure> {
-    if end == at {
-        return Ok(at);
-    }
-    let end = put_byte(out, end, b'\n');
-    if end < MOST_WAITING {
-        return Ok(end);
-    }
-    written(writer, out, end)
+    ghost within: { end ≤ 262144 },
 }
 
-// Writes what waits, up to an end, and answers 0, the end of what waits then.
-pub(crate) fn written<W: Write>(
-    writer: &mut W,
-    bytes: &[u8],
-    end: usize,
-) -> Result<usize, Failure> {
-    if bytes.len() < end {
-        return Err(Failure::Output);
+impl Output {
+    pub(crate) fn new() -> Self {
+        Output {
+            bytes: [0; OUTPUT_SIZE],
+            start: 0,
+            end: 0,
+        }
     }
-    match writer.write_all(&bytes[..end]) {
-        Ok(()) => Ok(0),
-        Err(_) => Err(Failure::Output),
+
+    // Puts bytes behind what waits; what has no room is left out.
+    fn put(&mut self, bytes: &[u8]) {
+        let count = bytes.len().min(OUTPUT_SIZE - self.end);
+        let end = self.end + count;
+        self.bytes[self.end..end].copy_from_slice(&bytes[..count]);
+        self.end = end;
+    }
+
+    // What a format says.
+    pub(crate) fn print<D: fmt::Display + Drop>(&mut self, text: D) {
+        let _ = fmt::Write::write(self, text);
+    }
+
+    // The answer to a call: what it says, or the refusal.
+    pub(crate) fn answer<D: fmt::Display + Drop>(&mut self, outcome: Outcome, text: D) {
+        if outcome.number == 0 {
+            self.print(text);
+        } else {
+            self.print(Refused(outcome));
+        }
+    }
+
+    // Ends the line of an answer, where there is one. Much that waits is written.
+    pub(crate) fn end_answer<W: io::Write>(&mut self, writer: &mut W) -> Result<(), Failure> {
+        if self.end == self.start {
+            return Ok(());
+        }
+        self.put(b"\n");
+        self.start = self.end;
+        if self.end < MOST_WAITING {
+            return Ok(());
+        }
+        self.flush(writer)
+    }
+
+    // Writes what waits.
+    pub(crate) fn flush<W: io::Write>(&mut self, writer: &mut W) -> Result<(), Failure> {
+        let end = self.end;
+        self.start = 0;
+        self.end = 0;
+        writer
+            .write_all(&self.bytes[..end])
+            .map_err(|_| Failure::Output)
+    }
+}
+
+impl fmt::Write for Output {
+    fn write_str(&mut self, s: &str) -> fmt::Result {
+        self.put(s.as_bytes());
+        Ok(())
+    }
+}
+
+// A refusal: its number, its place where it has one, the status where one is sent, the problem type where there is one.
+#[derive(Clone, Copy)]
+struct Refused(Outcome);
+
+impl fmt::Display for Refused {
+    fn fmt<W: fmt::Write>(&self, f: &mut fmt::Formatter<W>) -> fmt::Result {
+        let outcome = self.0;
+        write!(f, "refused {}", outcome.number)?;
+        if outcome.has_place {
+            write!(f, " at {}", outcome.place)?;
+        }
+        if outcome.status != 0 {
+            write!(f, " status={}", outcome.status)?;
+        }
+        if outcome.problem != Outcome::NO_PROBLEM {
+            f.write_str(" ohttp-key")?;
+        }
+        Ok(())
     }
 }

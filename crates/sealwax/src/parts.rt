@@ -1,20 +1,31 @@
 // Parts of slices, and the buffers that are lent to calls.
 ghost use Rattle.std.specs.Prelude.{◌≡◌, min};
 
-// How long a part is, 0 where it ends before it starts.
-pub(crate) fn length_of(start: usize, end: usize) -> usize {
-    if start < end { end - start } else { 0 }
+// Where a part of a line starts and ends.
+#[derive(Clone, Copy, Default)]
+pub(crate) struct Span {
+    pub start: usize,
+    pub end: usize,
 }
 
-// A part of the bytes, empty where there is no such part.
-pub(crate) fn part_of(bytes: &[u8], start: usize, end: usize) -> &[u8] {
-    if end < start {
-        return &bytes[..0];
+impl Span {
+    // How long it is, 0 where it ends before it starts.
+    pub(crate) fn length(self) -> usize {
+        self.end.saturating_sub(self.start)
     }
-    if bytes.len() < end {
-        return &bytes[..0];
+
+    // What it is of a list, empty where there is no such part.
+    pub(crate) fn of<T>(self, items: &[T]) -> &[T] {
+        match items.get(self.start..self.end) {
+            Some(part) => part,
+            None => &[],
+        }
     }
-    &bytes[start..end]
+}
+
+// The front of a list up to a place, empty where there is no such place.
+pub(crate) fn front_of<T>(items: &[T], end: usize) -> &[T] {
+    Span { start: 0, end }.of(items)
 }
 
 // The most room of a buffer that is lent, and what it holds before the call.
@@ -26,9 +37,5 @@ pub(crate) const FILL: u8 = 0xa5;
 pub(crate) fn room_of(room: u64, most: usize) -> usize
     ensures { result ≡ min room most }
 {
-    if room < most as u64 {
-        room as usize
-    } else {
-        most
-    }
+    room.min(most as u64) as usize
 }

@@ -1,155 +1,122 @@
 // The line `write`: its configurations, gathered as the list writer takes them.
-use crate::client_lines::{
-    NUMBERS_SIZE, Numbers, code_of, id_of, numbers_of, put_bad_line, put_numbers,
-};
-use crate::input::move_down;
-use crate::lines::{CONFIGURATION, Line, take_all};
-use crate::output::OutputBuffer;
-use crate::parts::{FILL, length_of, part_of, room_of};
-use crate::text::{put_labelled, put_short};
-use results::list_calls::write_result;
+use crate::client_lines::{code_of, id_of};
+use crate::codes::Codes;
+use crate::hex::Hex;
+use crate::lines::{CONFIGURATION, Line, Name};
+use crate::output::Output;
+use crate::parts::{FILL, Span, front_of, room_of};
+use crate::words::Words;
+use results::outcome::NumberResult;
 
 // The most room that `write` lends, and the most configurations of a line.
 const MOST_LIST_ROOM: usize = 4096;
 
 const MOST_GIVEN: usize = 17;
 
-// How many lengths a line can say: of each configuration's key, and behind these how many pair numbers it has.
-const LENGTHS_SIZE: usize = 2 * MOST_GIVEN;
-
-type Lengths = [usize; LENGTHS_SIZE];
-
-type Ids = [u8; MOST_GIVEN];
-
 // The configurations so far. Their keys stand in the line itself, from where its configurations start up to `keys_end`: a key is moved down there, since
-// an id and a KEM stand in front of it. Of the numbers the first MOST_GIVEN are their KEMs, and the others up to `pairs_end` their pairs. The next word
-// starts at `next`.
-#[derive(Clone, Copy)]
+// an id and a KEM stand in front of it.
+#[derive(Drop)]
 struct Given {
     count: usize,
+    ids: [u8; MOST_GIVEN],
+    kems: [u16; MOST_GIVEN],
+    key_lengths: [usize; MOST_GIVEN],
     keys_end: usize,
-    pairs_end: usize,
-    next: usize,
+    pair_counts: [usize; MOST_GIVEN],
+    pairs: Codes,
 }
 
-// With the configuration of the next four words.
-fn with_next(
-    given: Given,
-    line: &mut [u8],
-    ids: &mut Ids,
-    numbers: &mut Numbers,
-    lengths: &mut Lengths,
-) -> Given {
-    let said = take_all(line, given.next, CONFIGURATION);
-    let count = given.count % MOST_GIVEN;
-    let pairs_end = put_numbers(
-        line,
-        said.second_start,
-        said.second_end,
-        numbers,
-        given.pairs_end,
-    );
-    lengths[count] = move_down(line, said.start, said.end, given.keys_end);
-    lengths[MOST_GIVEN + count] = length_of(given.pairs_end, pairs_end);
-    numbers[count] = code_of(said.second);
-    ids[count] = id_of(said.first);
-    Given {
-        count: count + 1,
-        keys_end: std::num::wrapping_add_usize(given.keys_end, lengths[count]),
-        pairs_end,
-        next: said.next,
-    }
-}
-
-// The configurations of the words from a place on, as many as a line may have.
-fn take_given(
-    line: &mut [u8],
-    at: usize,
-    ids: &mut Ids,
-    numbers: &mut Numbers,
-    lengths: &mut Lengths,
-) -> Given {
-    let mut given = Given {
-        count: 0,
-        keys_end: at,
-        pairs_end: MOST_GIVEN,
-        next: at,
-    };
-    let mut left = MOST_GIVEN;
-    while left != 0 {
-        if line.len() <= given.next {
-            break;
+impl Given {
+    // With the configurations of the words that are left, as many as a line may have; whether each is one, and no word is left behind them.
+    fn take_all(&mut self, words: &mut Words<'_>) -> bool {
+        for _ in 0..MOST_GIVEN {
+            if words.are_taken() {
+                return true;
+            }
+            let Some(line) = Line::of(Name::Write, CONFIGURATION, words) else {
+                return false;
+            };
+            self.add(line, words.line);
         }
-        given = with_next(given, line, ids, numbers, lengths);
-        left -= 1;
+        words.are_taken()
     }
-    given
+
+    // With the configuration that words of a line say.
+    fn add(&mut self, said: Line, line: &mut [u8]) {
+        if MOST_GIVEN <= self.count {
+            return;
+        }
+        let pairs = self.pairs.put(said.parts[1].of(line));
+        let key = said.parts[0];
+        self.ids[self.count] = id_of(said.numbers[0]);
+        self.kems[self.count] = code_of(said.numbers[1]);
+        self.key_lengths[self.count] = key.length();
+        self.pair_counts[self.count] = pairs.length();
+        self.count += 1;
+        self.keys_end = move_down(line, key, self.keys_end);
+    }
+
+    // Writes their list into a buffer; their keys stand in a line from a place on.
+    fn write(&self, line: &[u8], start: usize, list: &mut [u8]) -> NumberResult {
+        let pairs = Span {
+            start: 0,
+            end: self.pairs.count,
+        };
+        listwriter::write(
+            front_of(&self.ids, self.count),
+            front_of(&self.kems, self.count),
+            front_of(&self.key_lengths, self.count),
+            Span {
+                start,
+                end: self.keys_end,
+            }
+            .of(line),
+            front_of(&self.pair_counts, self.count),
+            self.pairs.part(pairs),
+            list,
+        )
+        .into()
+    }
+}
+
+// Moves a part of a line down to a place, and answers where it ends there.
+fn move_down(line: &mut [u8], part: Span, to: usize) -> usize {
+    if to <= part.start && part.start <= part.end && part.end <= line.len() {
+        line.copy_within(part.start..part.end, to);
+    }
+    to.saturating_add(part.length())
 }
 
 // Answers a line of `write`, of a number.
-pub(crate) fn put_write(
-    said: Line,
-    number: u64,
-    line: &mut [u8],
-    out: &mut OutputBuffer,
-    at: usize,
-) -> usize {
-    let mut numbers = [0u16; NUMBERS_SIZE];
-    let mut lengths = [0usize; LENGTHS_SIZE];
-    let mut ids = [0u8; MOST_GIVEN];
-    let given = take_given(line, said.next, &mut ids, &mut numbers, &mut lengths);
-    if given.next == line.len() {
-        let keys = part_of(line, said.next, given.keys_end);
-        return put_written(given, keys, &ids, &numbers, &lengths, said.first, out, at);
+pub(crate) fn write(said: Line, number: u64, line: &mut [u8], out: &mut Output) {
+    let mut given = Given {
+        count: 0,
+        ids: [0; MOST_GIVEN],
+        kems: [0; MOST_GIVEN],
+        key_lengths: [0; MOST_GIVEN],
+        keys_end: said.next,
+        pair_counts: [0; MOST_GIVEN],
+        pairs: Codes::new(),
+    };
+    let mut words = Words {
+        line,
+        at: said.next,
+    };
+    let is_whole = given.take_all(&mut words);
+    if is_whole {
+        put_written(&given, words.line, said, out);
+    } else {
+        out.print(format_args!("bad line {number}"));
     }
-    put_bad_line(number, out, at)
 }
 
-fn put_written(
-    given: Given,
-    keys: &[u8],
-    ids: &Ids,
-    numbers: &Numbers,
-    lengths: &Lengths,
-    room: u64,
-    out: &mut OutputBuffer,
-    mut at: usize,
-) -> usize {
-    let front = 0;
-    let room = room_of(room, MOST_LIST_ROOM);
+fn put_written(given: &Given, line: &[u8], said: Line, out: &mut Output) {
+    let room = room_of(said.numbers[0], MOST_LIST_ROOM);
     let mut list = [FILL; MOST_LIST_ROOM];
-    let result = write_result(listwriter::write(
-        part_of(ids, 0, given.count),
-        numbers_of(numbers, 0, given.count),
-        lengths_of(lengths, 0, given.count),
-        keys,
-        lengths_of(lengths, MOST_GIVEN, given.count),
-        numbers_of(numbers, MOST_GIVEN, given.pairs_end),
-        &mut list[front..room],
-    ));
-    at = put_short(
-        out,
-        at,
+    let result = given.write(line, said.next, &mut list[..room]);
+    out.answer(
         result.outcome,
-        b"written length=%",
-        result.number,
-        0,
+        format_args!("written length={}", result.number),
     );
-    put_list(out, at, &list, room)
-}
-
-fn put_list(out: &mut OutputBuffer, at: usize, list: &[u8; MOST_LIST_ROOM], room: usize) -> usize {
-    put_labelled(out, at, b" buffer=", part_of(list, 0, room))
-}
-
-// So many lengths from a place on, none where there are not so many.
-fn lengths_of(lengths: &[usize], start: usize, count: usize) -> &[usize] {
-    let end = std::num::wrapping_add_usize(start, count);
-    if end < start {
-        return &lengths[..0];
-    }
-    if lengths.len() < end {
-        return &lengths[..0];
-    }
-    &lengths[start..end]
+    out.print(format_args!(" buffer={}", Hex(front_of(&list, room))));
 }

@@ -1,7 +1,7 @@
 -- Laws of the first match: what a loop that passed over the elements before it has shown.
 -- Assumes nothing.
 use mathlib.Core.Path.{◌≡◌, refl, ap}
-use mathlib.Core.Bool.{Bool, true, false, not}
+use mathlib.Core.Bool.{Bool, true, false, not, ◌||◌}
 use mathlib.Core.List.{List, [], ◌∷◌}
 use mathlib.Core.Option.{none as nothing, some}
 use Prim.Native.Nat.{ℕ, zero, suc, ◌+◌, ◌-◌, ◌≤◌, ◌<◌, suc-le-suc}
@@ -11,11 +11,11 @@ use borrow.Author.Tests.{eq-eqb, ne_eqb, le-leb, lt-leb, ltb-true, ltb-false}
 use lib.Dec.{eqb, leb, ltb}
 use lib.ListN.{length, get_or, drop, drop_of_length-le}
 use lib.Seq.{drop-cons}
-use Rattle.wire.specs.Tests.{pick}
+use Rattle.std.specs.List.{list_any}
 use Rattle.wire.proofs.Booleans.{either, true_or_false}
-use Rattle.wire.specs.Search.{first_from, first_place, any_passes, among, find}
+use Rattle.wire.specs.Search.{first_from, first_place, among, find}
 
-later : (b : Bool) {rest : Bool} → rest ≡ true → pick b true rest ≡ true
+later : (b : Bool) {rest : Bool} → rest ≡ true → (b || rest) ≡ true
 later true e = refl
 later false e = e
 
@@ -70,25 +70,23 @@ module _ {A : Type 0} (default : A) (test : A → Bool) where
   from_end xs at h = rw (drop_of_length-le xs h) (add-zero at)
 
   -- where some element passes, there is a first match
-  pub any_inside : (xs : List A) → any_passes test xs ≡ true → first_place test xs < length xs
-  unfolding any_passes first_place
+  pub any_inside : (xs : List A) → list_any test xs ≡ true → first_place test xs < length xs
+  unfolding first_place
   any_inside [] e = absurd (true_or_false e refl)
   any_inside (x ∷ xs) e = either (test x) (λ h. rw h (omega arith)) (λ h. rw h (suc-le-suc (any_inside xs (rw h at e))))
 
   -- where some element passes, the first match does
-  pub any_first : (xs : List A) → any_passes test xs ≡ true → test (get_or xs (first_place test xs) default) ≡ true
-  unfolding any_passes first_place
+  pub any_first : (xs : List A) → list_any test xs ≡ true → test (get_or xs (first_place test xs) default) ≡ true
+  unfolding first_place
   any_first [] e = absurd (true_or_false e refl)
   any_first (x ∷ xs) e = either (test x) (λ h. rw h h) (λ h. rw h (any_first xs (rw h at e)))
 
-  pub any_at : (xs : List A) (k : ℕ) → k < length xs → test (get_or xs k default) ≡ true → any_passes test xs ≡ true
-  unfolding any_passes
+  pub any_at : (xs : List A) (k : ℕ) → k < length xs → test (get_or xs k default) ≡ true → list_any test xs ≡ true
   any_at [] k h here = absurd (not-suc-le-zero h)
   any_at (x ∷ xs) zero h here = rw here
   any_at (x ∷ xs) (suc k) h here = later (test x) (any_at xs k (le_of_suc-le-suc h) here)
 
-  pub any_none : (xs : List A) → ((j : ℕ) → j < length xs → test (get_or xs j default) ≡ false) → any_passes test xs ≡ false
-  unfolding any_passes
+  pub any_none : (xs : List A) → ((j : ℕ) → j < length xs → test (get_or xs j default) ≡ false) → list_any test xs ≡ false
   any_none [] none = refl
   any_none (x ∷ xs) none = rw (none 0 (omega arith)) (any_none xs (λ j l. none (suc j) (suc-le-suc l)))
 
@@ -105,13 +103,13 @@ module _ {A : Type 0} (default : A) (test : A → Bool) where
       either (test x) (λ e. absurd (not-suc-le-zero (rw e at h))) (λ e. rw e (that_outside xs (le_of_suc-le-suc (rw e at h))))
 
   -- whether some element passes is whether the first match is inside
-  pub any_by_place : (xs : List A) → not (any_passes test xs) ≡ leb (length xs) (first_place test xs)
+  pub any_by_place : (xs : List A) → not (list_any test xs) ≡ leb (length xs) (first_place test xs)
   any_by_place xs =
-      either (any_passes test xs)
+      either (list_any test xs)
       (λ e. rw (e, lt-leb (length xs) (first_place test xs) (any_inside xs e)))
       (λ e. rw (e, le-leb (length xs) (first_place test xs) (outside xs e)))
     where
-      outside : (xs : List A) → any_passes test xs ≡ false → length xs ≤ first_place test xs
+      outside : (xs : List A) → list_any test xs ≡ false → length xs ≤ first_place test xs
       outside xs e =
           either (ltb (first_place test xs) (length xs))
           (λ l. absurd (true_or_false (any_at xs (first_place test xs) (ltb-true _ _ l) (first_passes xs (ltb-true _ _ l))) e))

@@ -2,6 +2,7 @@
 pub mod Tests
 pub mod Bytes
 pub mod Refusals
+pub mod Reasons
 pub mod Search
 pub mod Texts
 pub mod Hex

@@ -1,6 +1,7 @@
 -- The elements of a list that pass a test, the first of them, and its place.
 use Rattle.std.specs.Prelude.{ℕ, suc, ◌+◌, Bool, true, false, List, [], ◌∷◌, eqb, drop}
 use Rattle.std.proofs.Math.Option.{Option, none, some}
+use Rattle.std.specs.List.{list_any}
 use Rattle.wire.specs.Tests.{pick}
 
 -- the place of the first element that passes; the list's length where none does
@@ -17,14 +18,9 @@ unfoldable pub filtered : {A : Type 0} → (A → Bool) → List A → List A
 filtered test [] = []
 filtered test (x ∷ xs) = pick (test x) (x ∷ filtered test xs) (filtered test xs)
 
--- some element passes
-unfoldable pub any_passes : {A : Type 0} → (A → Bool) → List A → Bool
-any_passes test [] = false
-any_passes test (x ∷ xs) = pick (test x) true (any_passes test xs)
-
 -- the number is in the list
 abbrev pub among : List ℕ → ℕ → Bool
-among numbers number = any_passes (λ n. eqb n number) numbers
+among numbers number = list_any (λ n. eqb n number) numbers
 
 -- the first element that passes, if there is one
 unfoldable pub find : {A : Type 0} → (A → Bool) → List A → Option A

@@ -1,5 +1,5 @@
 // Reads and writes at an offset. Each has an answer for every offset: 0 past the end, and no write there.
-ghost use Rattle.std.specs.Prelude.{◌≡◌, min};
+ghost use Rattle.std.specs.Prelude.{◌≡◌};
 ghost use Rattle.wire.specs.Bytes.{byte_at, word_at};
 ghost use Rattle.wire.specs.Helpers.{overwritten};
 
@@ -7,7 +7,7 @@ ghost use Rattle.wire.specs.Helpers.{overwritten};
 pub fn byte_at(bytes: &[u8], at: usize) -> u8
     ensures { result ≡ byte_at bytes.now at }
 {
-    if at < bytes.len() { bytes[at] } else { 0 }
+    bytes.get(at).copied().unwrap_or(0)
 }
 
 // The big-endian number of the two bytes at an offset; a byte past the end counts as 0.
@@ -15,16 +15,10 @@ pub fn word_at(bytes: &[u8], at: usize) -> u16
     ensures { result ≡ word_at bytes.now at }
 {
     if at < bytes.len() {
-        (byte_at(bytes, at) as u16) * 256 + (byte_at(bytes, at + 1) as u16)
+        u16::from_be_bytes([byte_at(bytes, at), byte_at(bytes, at + 1)])
     } else {
         0
     }
-}
-
-fn smaller(a: usize, b: usize) -> usize
-    ensures { result ≡ min a b }
-{
-    if a < b { a } else { b }
 }
 
 // Writes bytes from an offset of a buffer, as many as there is room for; the rest stays.
@@ -34,10 +28,6 @@ pub fn overwrite(buffer: &mut [u8], at: usize, bytes: &[u8])
     if buffer.len() < at {
         return;
     }
-    let count = smaller(bytes.len(), buffer.len() - at);
-    let mut done = 0;
-    while done < count {
-        buffer[at + done] = bytes[done];
-        done += 1;
-    }
+    let count = bytes.len().min(buffer.len() - at);
+    buffer[at..at + count].copy_from_slice(&bytes[..count]);
 }

@@ -4,5 +4,5 @@
 
 pub mod bytes;
 pub mod refusal;
-pub mod search;
+pub mod span;
 pub mod texts;

@@ -25,14 +25,11 @@ pub fn exporter_context() -> [u8; 22]
 pub fn head(key_id: u8, kem: u16, kdf: u16, aead: u16) -> [u8; HEAD_LENGTH]
     ensures { result ≡ head_bytes key_id kem kdf aead }
 {
+    let [kem_high, kem_low] = kem.to_be_bytes();
+    let [kdf_high, kdf_low] = kdf.to_be_bytes();
+    let [aead_high, aead_low] = aead.to_be_bytes();
     [
-        key_id,
-        (kem / 256) as u8,
-        (kem % 256) as u8,
-        (kdf / 256) as u8,
-        (kdf % 256) as u8,
-        (aead / 256) as u8,
-        (aead % 256) as u8,
+        key_id, kem_high, kem_low, kdf_high, kdf_low, aead_high, aead_low,
     ]
 }
 

@@ -1,59 +1,51 @@
--- `integers::read` meets its contract. The loop's invariant: what is read up to a place, and the bytes from it on, make the value.
+-- `integers::read` meets its contract: the first byte and the bytes behind it are there, or the integer is cut.
 -- Assumes nothing.
-use mathlib.Core.Path.{◌≡◌, sym, ◌∙◌}
-use Prim.Native.Nat.{◌+◌, ◌-◌, ◌<◌}
+use mathlib.Core.Path.{◌≡◌, refl, ap, ◌∙◌}
+use Prim.Native.Nat.{◌+◌, ◌-◌}
 use native.Mathlib.Omega.{arith}
-use Rattle.wire.specs.Bytes.{byte_at}
+use Rattle.wire.specs.Bytes.{byte_at, part}
 use Rattle.integers.specs.Integers.{size_of, integer_value}
 use Rattle.integers.proofs.Values.{has_room, is_cut, is_whole, next_byte, read_all, size_least, size_most}
 use Rattle.integers.proofs.read.Goals as goal
 
-pub returns-then-bytes-at : goal.returns-then-bytes-at
-returns-then-bytes-at c =
+pub returns-in_err-first-clause-value : goal.returns-in_err-first-clause-value
+returns-in_err-first-clause-value c =
     let s = c.args in
-    is_cut s.bytes.now s.at (omega (arith, size_least (byte_at s.bytes.now s.at)))
+    c.from_residual.ensures ∙ is_cut s.bytes.now s.at (omega (arith, c.in_err-first.ensures.lookup, size_least (byte_at s.bytes.now s.at)))
 
-pub returns-then-bytes-at-2 : goal.returns-then-bytes-at-2
-returns-then-bytes-at-2 c =
+pub returns-in_err-rest-clause-value : goal.returns-in_err-rest-clause-value
+returns-in_err-rest-clause-value c =
     let s = c.args in
-    is_cut s.bytes.now s.at (omega (arith, c.size_of-size.ensures))
+    let first : c.in_ok-first.field-0.now ≡ byte_at s.bytes.now s.at = c.in_ok-first.ensures.lookup.3.1 0 in
+    c.from_residual-in_err-rest.ensures
+    ∙ is_cut s.bytes.now s.at
+    (omega (arith, c.in_err-rest.ensures.lookup.0, c.size_of.ensures, ap size_of first, size_least (byte_at s.bytes.now s.at)))
 
-pub loop-place-init : goal.loop-place-init
-loop-place-init c =
-    let s = c.args in
-    let first = byte_at s.bytes.now s.at in
-    let e = c.size_of-size.ensures in
-    let low : first < 256 = omega (arith, c.shared_slice_known-3-1.given s.at) in
+pub loop-byte-init : goal.loop-byte-init
+loop-byte-init c =
     record {
-      from = omega arith;
-      to = omega (arith, e, size_least first);
-      inside = omega arith;
-      short = omega (arith, e, size_most first low);
-      bits = let z : s.at + 1 - (s.at + 1) ≡ 0 = omega arith in rw z (omega arith);
-      rest = let z : (s.at + c.size_of-size.result) - (s.at + 1) ≡ size_of first - 1 = omega (arith, e) in rw z;
+      short = omega (arith, c.in_ok-rest.ensures.lookup.0, c.size_of.ensures, size_most c.in_ok-first.field-0.now (omega arith));
+      bits = omega arith;
+      left = refl;
     }
 
 pub overflow_mul-value : goal.overflow_mul-value
-overflow_mul-value c = omega (arith, has_room c.loop-place.invariant c.loop-place-test.true)
+overflow_mul-value c = omega (arith, has_room c.loop-byte.invariant c.loop-byte-test.true)
 
 pub overflow_add-value : goal.overflow_add-value
-overflow_add-value c =
-    omega
-    (arith, has_room c.loop-place.invariant c.loop-place-test.true, c.shared_slice_known-in-loop-place-1.given c.loop-place.place)
+overflow_add-value c = omega (arith, has_room c.loop-byte.invariant c.loop-byte-test.true)
 
-pub loop-place-preserved : goal.loop-place-preserved
-loop-place-preserved c = next_byte c.loop-place.invariant c.loop-place-test.true (omega (arith, c.shared_slice_known-in-loop-place-1.given c.loop-place.place))
+pub loop-byte-preserved : goal.loop-byte-preserved
+loop-byte-preserved c = next_byte c.loop-byte.invariant c.loop-byte-test.true (omega arith)
 
-pub returns : goal.returns
-returns c =
+pub returns-clause-value : goal.returns-clause-value
+returns-clause-value c =
     let s = c.args in
-    let e = c.size_of-size.ensures in
-    let r = c.loop-place.invariant in
-    let v : c.loop-place.value ≡ integer_value s.bytes.now s.at = sym (read_all s.bytes.now _ _ _ c.loop-place-test.false) ∙ r.rest in
-    rw (v, e) (is_whole s.bytes.now s.at (omega (arith, e, r.inside)))
-
-pub overflow_cast-value-in-loop-place : goal.overflow_cast-value-in-loop-place
-overflow_cast-value-in-loop-place c = omega (arith, c.shared_slice_known-in-loop-place-1.given c.loop-place.place)
-
-pub loop-place-smaller : goal.loop-place-smaller
-loop-place-smaller c = omega arith
+    let first : c.in_ok-first.field-0.now ≡ byte_at s.bytes.now s.at = c.in_ok-first.ensures.lookup.3.1 0 in
+    let size : c.size_of.result ≡ size_of (byte_at s.bytes.now s.at) = c.size_of.ensures ∙ ap size_of first in
+    let there = c.in_ok-rest.ensures.lookup.0 in
+    let count : (s.at + c.size_of.result) - (s.at + 1) ≡ size_of (byte_at s.bytes.now s.at) - 1 = omega (arith, size) in
+    let rest : c.in_ok-rest.rest.now ≡ part s.bytes.now (s.at + 1) (size_of (byte_at s.bytes.now s.at) - 1) = rw count at there.2 in
+    let value : c.loop-byte.value ≡ integer_value s.bytes.now s.at =
+    read_all c.loop-byte.invariant c.loop-byte-test.false ∙ rw (first, rest) in
+    rw (value, size) (is_whole s.bytes.now s.at (omega (arith, size, there.1)))

@@ -6,8 +6,8 @@ use lib.ListN.{length}
 use Rattle.keys.proofs.Reading.{Read}
 use Rattle.keys.proofs.read_good.Given as goal
 
-abbrev pub invariant-loop-at : goal.invariant-loop-at
-invariant-loop-at l = Read l.list l.at l.keys.list l.count
+abbrev pub invariant-loop-place : goal.invariant-loop-place
+invariant-loop-place l = Read l.list l.at l.keys.list l.count
 
-abbrev pub decreases-loop-at : goal.decreases-loop-at
-decreases-loop-at l = length l.list - l.at
+abbrev pub decreases-loop-place : goal.decreases-loop-place
+decreases-loop-place l = length l.list - l.at

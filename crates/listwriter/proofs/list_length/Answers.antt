@@ -1,106 +1,61 @@
--- `listwriter::list_length` meets its contract. The loop's invariant: the answer is the offset and what the fields from the cursor on
--- encode to. The measure is how many key ids are left.
+-- `listwriter::list_length` meets its contract.
 -- Assumes nothing.
-use Rattle.listwriter.proofs.FieldsWalk.{length_more, at_bad, at_says, at-end, at_left_over, length_from, length_from_none, within_start, within_next, bounds_from, encode_some, encode_none}
-use Rattle.keylist.specs.Layout.{most_configurations}
-use Rattle.listwriter.proofs.FlatFields.{First}
-use Rattle.listwriter.specs.Writer.{fields, encode}
-use Rattle.listwriter.specs.Helpers.{fault_at, fields_from}
-use Rattle.listwriter.specs.declared.Written.{Written}
 use mathlib.Core.Path.{◌≡◌, sym, ap, ◌∙◌}
-use Prim.Native.Nat.{◌<◌}
+use Prim.Native.Nat.{◌+◌}
 use native.Mathlib.Omega.{arith}
+use lib.ListN.{take}
+use borrow.Author.Tests.{eqb-true, eqb-false}
+use Rattle.wire.specs.Search.{among}
+use Rattle.std.specs.Prelude.{Ok}
+use Rattle.std.proofs.lemmas.Result.{err_from_is_err_and}
+use Rattle.listwriter.specs.Helpers.{fields_of, first_checked, first_length}
+use Rattle.listwriter.proofs.FieldsWalk.{id_at, encode_none, length_from, measuring_start, measuring_refused, measuring_sizes, measuring_more, measured}
 use Rattle.listwriter.proofs.list_length.Goals as goal
-use Rattle.listwriter.proofs.list_length.Goals.{At-loop-cursor, Else-number-ne0}
+use Rattle.listwriter.proofs.list_length.Goals.{In_ok-check_first}
 
--- the configuration at the cursor has no fault
-passed : (c : Else-number-ne0)
-    → let a = c.args in
-    let k = c.loop-cursor.cursor in
-    fault_at a.ids.now (fields a.kems.now a.key_lengths.now a.keys.now a.pair_counts.now a.pairs.now) k.index k.key_at k.pair_at ≡ 0
+-- what the check of the first that is left says
+passed : (c : In_ok-check_first)
+    → let l = c.loop-before in
+    first_checked l.at l.before (among (take l.before c.args.ids.now) (id_at c.args.ids.now l.before)) (fields_of l.rest) ≡ Ok tt
 passed c =
-    let a = c.args in
-    let k = c.loop-cursor.cursor in
-    sym c.fault_at-number.ensures ∙ c.if-number-ne0.false
+    let l = c.loop-before in
+    let taken : c.contains.result ≡ among (take l.before c.args.ids.now) (id_at c.args.ids.now l.before) = c.contains.ensures.value in
+    rw (← taken) (sym c.in_ok-check_first.ensures)
 
-holding : (c : Else-number-ne0)
-    → let a = c.args in
-    let k = c.loop-cursor.cursor in
-    (k.index < most_configurations) × First (fields_from (fields a.kems.now a.key_lengths.now a.keys.now a.pair_counts.now a.pairs.now) k.index k.key_at k.pair_at)
-holding c =
-    let a = c.args in
-    let k = c.loop-cursor.cursor in
-    at_says a.ids.now (fields a.kems.now a.key_lengths.now a.keys.now a.pair_counts.now a.pairs.now) k.index k.at k.key_at k.pair_at (omega arith) (passed c)
+pub returns-then-is_empty : goal.returns-then-is_empty
+returns-then-is_empty c = rw (encode_none _ _ (eqb-true _ _ (sym c.is_empty.ensures ∙ c.if-is_empty.true)), c.at.ensures)
 
-pub returns-then-ids-eq0 : goal.returns-then-ids-eq0
-returns-then-ids-eq0 c = rw (encode_none _ _ c.if-ids-eq0.true, c.at.ensures)
+pub loop-before-init : goal.loop-before-init
+loop-before-init c = let some = eqb-false _ _ (sym c.is_empty.ensures ∙ c.if-is_empty.false) in measuring_start _ _ (omega (arith, some))
 
-pub loop-cursor-init : goal.loop-cursor-init
-loop-cursor-init c =
-    let s = c.start-cursor.ensures in
-    rw (s.0, s.1, s.2, s.3) (within_start _ _, length_from_none (encode _ _) ∙ ap (length_from 0) (encode_some _ _ (omega arith)))
+pub returns-in_err-check_first : goal.returns-in_err-check_first
+returns-in_err-check_first c =
+    let l = c.loop-before in
+    let r = c.in_err-check_first.field-0.0 in
+    let taken : c.contains.result ≡ among (take l.before c.args.ids.now) (id_at c.args.ids.now l.before) = c.contains.ensures.value in
+    let p = err_from_is_err_and c.from_residual.result c.from_residual.ensures.1 in
+    rw (measuring_refused l.invariant (omega arith) r (rw (← taken) (sym c.in_err-check_first.ensures)), p.1, p.2)
 
-pub refused-requires : goal.refused-requires
-refused-requires c = let w = c.loop-cursor.invariant.0 in omega (arith, w.limit, w.place)
+pub first_size-at-requires : goal.first_size-at-requires
+first_size-at-requires c = (measuring_sizes c.loop-before.invariant (omega arith) (passed (goal.at.first_size-at-requires c).In_ok-check_first)).1
 
-pub returns-then-number-ne0 : goal.returns-then-number-ne0
+pub overflow_add-at : goal.overflow_add-at
+overflow_add-at c =
+    let sizes = measuring_sizes c.loop-before.invariant (omega arith) (passed (goal.at.overflow_add-at c).In_ok-check_first) in
+    omega (arith, c.first_size-at.ensures)
+
+pub loop-before-preserved : goal.loop-before-preserved
+loop-before-preserved c =
+    let l = c.loop-before in
+    let next : l.at + c.first_size-at.result ≡ l.at + 2 + first_length (fields_of l.rest) = omega (arith, c.first_size-at.ensures) in
+    rw (next, c.behind_first-rest.ensures) (measuring_more l.invariant (omega arith) (passed (goal.at.loop-before-preserved c).In_ok-check_first))
+
+pub returns-then-is_empty-2 : goal.returns-then-is_empty-2
 unfolding length_from
-returns-then-number-ne0 c =
-    let a = c.args in
-    let k = c.loop-cursor.cursor in
-    let fault = c.fault_at-number.ensures in
-    rw (
-      c.refused.ensures,
-      c.kem_at.ensures,
-      fault,
-      c.loop-cursor.invariant.1,
-      at_bad a.ids.now (fields a.kems.now a.key_lengths.now a.keys.now a.pair_counts.now a.pairs.now) k.index k.at k.key_at k.pair_at (omega arith) (rw fault at c.if-number-ne0.true),
-    )
+returns-then-is_empty-2 c =
+    rw (measured c.loop-before.invariant (omega arith), ← c.is_empty-2.ensures, c.if-is_empty-2.true) (ap Ok (omega arith))
 
-pub next-cursor-requires : goal.next-cursor-requires
-next-cursor-requires c =
-    let w = c.loop-cursor.invariant.0 in
-    let b = bounds_from _ _ _ _ _ _ w (holding (goal.at.next-cursor-requires c).Else-number-ne0).1 in
-    omega (
-      arith,
-      b.0,
-      b.1.0,
-      (holding (goal.at.next-cursor-requires c).Else-number-ne0).0,
-      w.place,
-      w.key_place,
-      w.pair_place,
-      c.number_at-in-loop-cursor.ensures,
-      c.number_at.ensures,
-    )
-
-pub loop-cursor-preserved : goal.loop-cursor-preserved
-loop-cursor-preserved c =
-    let a = c.args in
-    let k = c.loop-cursor.cursor in
-    let w = c.loop-cursor.invariant.0 in
-    let n = c.next-cursor.ensures in
-    let is = holding (goal.at.loop-cursor-preserved c).Else-number-ne0 in
-    rw (n.0, n.1, n.2, n.3, c.number_at-in-loop-cursor.ensures, c.number_at.ensures) (
-      within_next _ _ _ _ _ _ w is.1 (omega arith) is.0,
-      c.loop-cursor.invariant.1 ∙ length_more a.ids.now (fields a.kems.now a.key_lengths.now a.keys.now a.pair_counts.now a.pairs.now) k.index k.at k.key_at k.pair_at (omega arith) (passed (goal.at.loop-cursor-preserved c).Else-number-ne0),
-    )
-
-pub returns-then-none_left : goal.returns-then-none_left
+pub returns-else-is_empty-2 : goal.returns-else-is_empty-2
 unfolding length_from
-returns-then-none_left c =
-    let a = c.args in
-    let k = c.loop-cursor.cursor in
-    rw (c.loop-cursor.invariant.1, at-end a.ids.now (fields a.kems.now a.key_lengths.now a.keys.now a.pair_counts.now a.pairs.now) k.index k.at k.key_at k.pair_at (omega arith) (rw (← c.none_left.ensures) c.if-none_left.true))
-    (ap Written.Length (omega arith))
-
-pub returns-else-none_left : goal.returns-else-none_left
-unfolding length_from
-returns-else-none_left c =
-    let a = c.args in
-    let k = c.loop-cursor.cursor in
-    rw (
-      c.at-else-none_left.ensures,
-      c.loop-cursor.invariant.1,
-      at_left_over a.ids.now (fields a.kems.now a.key_lengths.now a.keys.now a.pair_counts.now a.pairs.now) k.index k.at k.key_at k.pair_at (omega arith)
-          (rw (← c.none_left.ensures) c.if-none_left.false),
-    )
+returns-else-is_empty-2 c =
+    rw (measured c.loop-before.invariant (omega arith), ← c.is_empty-2.ensures, c.if-is_empty-2.false, c.at-else-is_empty-2.ensures)

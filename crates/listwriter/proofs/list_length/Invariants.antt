@@ -1,20 +1,8 @@
--- `listwriter::list_length` meets its contract. The loop's invariant: the answer is the offset and what the fields from the cursor on
--- encode to. The measure is how many key ids are left.
+-- `listwriter::list_length` meets its contract. The loop's invariant: the answer is the offset and what the fields that are left encode to.
 -- Assumes nothing.
-use Rattle.listwriter.proofs.FieldsWalk.{encode_at, length_from, Within}
-use Rattle.listwriter.specs.Writer.{fields, encode}
-use Rattle.listwriter.specs.Helpers.{length_written}
-use mathlib.Core.Path.{◌≡◌}
-use Prim.Native.Nat.{◌-◌}
-use lib.ListN.{length}
+use Rattle.listwriter.specs.Helpers.{fields_of}
+use Rattle.listwriter.proofs.FieldsWalk.{Measuring}
 use Rattle.listwriter.proofs.list_length.Given as goal
 
-abbrev pub invariant-loop-cursor : goal.invariant-loop-cursor
-invariant-loop-cursor l =
-    Within l.ids (fields l.kems l.key_lengths l.keys l.pair_counts l.pairs) l.cursor.index l.cursor.at l.cursor.key_at l.cursor.pair_at
-    × (length_written (encode l.ids (fields l.kems l.key_lengths l.keys l.pair_counts l.pairs))
-    ≡ length_from l.cursor.at
-    (encode_at l.ids (fields l.kems l.key_lengths l.keys l.pair_counts l.pairs) l.cursor.index l.cursor.at l.cursor.key_at l.cursor.pair_at))
-
-abbrev pub decreases-loop-cursor : goal.decreases-loop-cursor
-decreases-loop-cursor l = length l.ids - l.cursor.index
+abbrev pub invariant-loop-before : goal.invariant-loop-before
+invariant-loop-before l = Measuring l.ids (fields_of l.given) l.before l.at (fields_of l.rest)

@@ -3,13 +3,9 @@
 use Rattle.listwriter.specs.Writer.{words_bytes}
 use Rattle.wire.specs.Helpers.{overwritten}
 use mathlib.Core.Path.{◌≡◌}
-use Prim.Native.Nat.{◌-◌, ◌≤◌}
 use lib.ListN.{length, take}
 use Rattle.listwriter.proofs.write_words.Given as goal
 
 abbrev pub invariant-loop-done : goal.invariant-loop-done
 invariant-loop-done l =
-    (l.done ≤ length l.words) × (length l.buffer ≡ length l.initial.buffer) × (l.buffer ≡ overwritten l.initial.buffer l.at (words_bytes (take l.done l.words)))
-
-abbrev pub decreases-loop-done : goal.decreases-loop-done
-decreases-loop-done l = length l.words - l.done
+    (length l.buffer ≡ length l.initial.buffer) × (l.buffer ≡ overwritten l.initial.buffer l.at (words_bytes (take l.done l.words)))

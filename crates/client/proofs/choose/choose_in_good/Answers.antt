@@ -1,59 +1,76 @@
--- `client::choose::choose_in_good` meets its contract. The loop's invariant: the choice is the choice among the configurations that
--- are left, and at the offset the first of them starts. The measure is what is left of the list.
+-- `client::choose::choose_in_good` meets its contract.
 -- Assumes nothing.
-use mathlib.Core.Path.{◌≡◌, sym, ◌∙◌}
-use native.Mathlib.Omega.{arith}
-use borrow.Author.Tests.{eq-eqb}
-use Rattle.keylist.proofs.Walk.{GoodNext, walk_start, walk_next, walk_end}
-use Rattle.keylist.specs.Layout.{next_start}
-use Rattle.keylist.specs.Helpers.{first_read}
-use Rattle.keylist.proofs.Keys.{place_inside}
-use Rattle.keylist.proofs.LayoutLaws.{good_layout}
-use Rattle.client.proofs.Choosing.{chosen_first, chosen_later}
+use Rattle.std.proofs.Common.{◌≡◌, ◌<◌, length, sym, ap, ◌∙◌, arith, eq-eqb}
+use Rattle.keylist.specs.declared.Place.{Place}
+use Rattle.keylist.specs.Helpers.{place_of}
+use Rattle.keylist.proofs.Keys.{place_there, no_place}
+use Rattle.keylist.proofs.Walk.{walk_start, walk_next, walk_end}
+use Rattle.client.proofs.Choosing.{other_kem, no_pair, chosen_here}
 use Rattle.client.proofs.choose.choose_in_good.Goals as goal
-use Rattle.client.proofs.choose.choose_in_good.Goals.{After-place_at-at, In-loop-at}
+use Rattle.client.proofs.choose.choose_in_good.Goals.{In-Some}
 
-pub loop-at-init : goal.loop-at-init
+pub loop-place-init : goal.loop-place-init
 unfolding walk_start
-loop-at-init c =
+loop-place-init c =
     let p = c.requires in
     rw c.first_read-at.ensures (walk_start _ p.good.0 p.good.1, rw (p.good.1, eq-eqb _ _ p.even))
 
--- what is known of the configuration at the loop's offset
-next : (c : In-loop-at)
-    → GoodNext c.args.list.now c.loop-at.at c.loop-at.invariant.0.rest
-next c = walk_next _ _ c.loop-at.invariant.0 (omega arith)
+-- the place that was read at the loop's offset
+place : (c : In-Some) → (c.loop-place.at < length c.args.list.now) × (c.in-Some.place ≡ place_of c.args.list.now c.loop-place.at)
+place c = place_there _ _ _ c.in-Some.ensures
 
-pub returns-in-Usable : goal.returns-in-Usable
-returns-in-Usable c =
+pub overflow_add-place : goal.overflow_add-place
+overflow_add-place c =
+    let (more, is) = place (goal.at.overflow_add-place c).In-Some in
+    let h = (walk_next _ _ c.loop-place.invariant.0 more).holding in
+    rw is (omega (arith, h.whole, h.sizes))
+
+pub first_usable-requires : goal.first_usable-requires
+first_usable-requires c =
+    let (more, is) = place (goal.at.first_usable-requires c).In-Some in
+    let h = (walk_next _ _ c.loop-place.invariant.0 more).holding in
+    rw (c.word_at.ensures, is) (omega (arith, h.whole, h.sizes))
+
+pub returns-in-Some-first_usable : goal.returns-in-Some-first_usable
+returns-in-Some-first_usable c =
     let a = c.args in
-    let n = next (goal.at.returns-in-Usable c).In-loop-at in
-    rw c.loop-at.invariant.1
-    (sym (chosen_first a.kems.now a.pairs.now _ _ n (rw (← c.choose_at.ensures) c.in-Usable.is)))
+    let l = c.loop-place in
+    let (more, is) = place (goal.at.returns-in-Some-first_usable c).In-Some in
+    let kem = rw is at (sym c.is_listed_kem.ensures ∙ c.if-is_listed_kem.true) in
+    let found = rw (c.word_at.ensures, is) at (sym c.first_usable.ensures ∙ c.in-Some-first_usable.is) in
+    rw (is, l.invariant.1) (sym (chosen_here a.kems.now a.pairs.now _ _ (walk_next _ _ l.invariant.0 more) kem found))
 
--- the offset that the loop goes on from is where the next configuration starts
-goes_on : (c : After-place_at-at)
-    → let list = c.args.list.now in
-    c.place_at-at.result.next ≡ first_read list (next_start list c.loop-at.at)
-goes_on c =
-    let list = c.args.list.now in
-    rw (c.place_at-at.ensures, place_inside list c.loop-at.at (omega arith))
+pub loop-place-smaller-in_default-first_usable : goal.loop-place-smaller-in_default-first_usable
+loop-place-smaller-in_default-first_usable c =
+    let l = c.loop-place in
+    let (more, is) = place (goal.at.loop-place-smaller-in_default-first_usable c).In-Some in
+    omega (arith, more, ap (λ (p : Place). p.next) is, (walk_next _ l.at l.invariant.0 more).onward)
 
-pub loop-at-preserved : goal.loop-at-preserved
-loop-at-preserved c =
+pub loop-place-preserved-in_default-first_usable : goal.loop-place-preserved-in_default-first_usable
+loop-place-preserved-in_default-first_usable c =
     let a = c.args in
-    let n = next (goal.at.loop-at-preserved c).In-loop-at in
-    let here = rw c.choose_at.ensures at c.in-Refused.is in
-    let later = c.loop-at.invariant.1 ∙ chosen_later a.kems.now a.pairs.now _ _ n here in
-    rw (goes_on c) (n.next, later)
+    let l = c.loop-place in
+    let (more, is) = place (goal.at.loop-place-preserved-in_default-first_usable c).In-Some in
+    let n = walk_next _ _ l.invariant.0 more in
+    let none = rw (c.word_at.ensures, is) at (sym c.first_usable.ensures ∙ c.in_default-first_usable.is) in
+    rw is (n.next, l.invariant.1 ∙ no_pair a.kems.now a.pairs.now _ _ n none)
+
+pub loop-place-smaller : goal.loop-place-smaller
+loop-place-smaller c =
+    let l = c.loop-place in
+    let (more, is) = place (goal.at.loop-place-smaller c).In-Some in
+    omega (arith, more, ap (λ (p : Place). p.next) is, (walk_next _ l.at l.invariant.0 more).onward)
+
+pub loop-place-preserved : goal.loop-place-preserved
+loop-place-preserved c =
+    let a = c.args in
+    let l = c.loop-place in
+    let (more, is) = place (goal.at.loop-place-preserved c).In-Some in
+    let n = walk_next _ _ l.invariant.0 more in
+    let other = rw is at (sym c.is_listed_kem.ensures ∙ c.if-is_listed_kem.false) in
+    rw is (n.next, l.invariant.1 ∙ other_kem a.kems.now a.pairs.now _ _ n other)
 
 pub returns : goal.returns
 returns c =
-    let l = c.loop-at in
-    rw (l.invariant.1, walk_end _ l.at l.invariant.0 (omega arith)) c.refused.ensures
-
-pub choose_at-requires : goal.choose_at-requires
-choose_at-requires c = good_layout _ _ (next c).holding
-
-pub loop-at-smaller : goal.loop-at-smaller
-loop-at-smaller c = omega (arith, goes_on c, (next (goal.at.loop-at-smaller c).In-loop-at).onward)
+    let l = c.loop-place in
+    rw (l.invariant.1, walk_end _ l.at l.invariant.0 (no_place _ _ (sym c.place_at.ensures ∙ c.in_default.is)), c.from.ensures)

@@ -9,9 +9,9 @@ use Rattle.keylist.specs.Layout.{parse}
 use Rattle.client.specs.Choose.{choose_from, choose_first}
 use Rattle.client.proofs.choose.choose_in_good.Given as goal
 
-abbrev pub invariant-loop-at : goal.invariant-loop-at
-invariant-loop-at l =
+abbrev pub invariant-loop-place : goal.invariant-loop-place
+invariant-loop-place l =
     (w : GoodFrom l.list l.at) × (choose_from l.kems l.pairs (parse l.list) ≡ choose_first l.kems l.pairs w.rest)
 
-abbrev pub decreases-loop-at : goal.decreases-loop-at
-decreases-loop-at l = length l.list - l.at
+abbrev pub decreases-loop-place : goal.decreases-loop-place
+decreases-loop-place l = length l.list - l.at

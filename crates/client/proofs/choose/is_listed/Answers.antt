@@ -1,36 +1,25 @@
--- `client::choose::is_listed` meets its contract. The loop's invariant: the pair is listed exactly where it is among the pairs that
--- are left. The measure is how many numbers are left.
+-- `client::choose::is_listed` meets its contract.
 -- Assumes nothing.
-use mathlib.Core.Path.{◌≡◌, ◌∙◌}
-use mathlib.Core.Bool.{true}
-use Prim.Native.Nat.{◌+◌}
-use native.Mathlib.Omega.{arith}
-use lib.ListN.{drop}
-use Rattle.wire.specs.Tests.{pick}
-use Rattle.keylist.specs.declared.Pair.{Pair}
+use Rattle.std.proofs.Common.{◌≡◌, ◌-◌, true, false, ◌&&◌, eqb, length, get_or, take, drop, sym, ap, ◌∙◌, arith}
+use Rattle.std.proofs.lemmas.Grind.{common_steps}
 use Rattle.client.specs.Choose.{listed}
 use Rattle.client.proofs.Pairs.{listed_step, listed_end}
 use Rattle.client.proofs.choose.is_listed.Goals as goal
-use Rattle.client.proofs.choose.is_listed.Goals.{After-are_same}
 
--- the search, one pair on
-one_on : (c : After-are_same)
-    → let a = c.args in
-    let pair : Pair = record { kdf = a.kdf; aead = a.aead } in
-    let rest = drop (c.loop-at.at + 2) a.pairs.now in
-    listed a.pairs.now pair ≡ pick c.are_same.result true (listed rest pair)
-one_on c =
-    let l = c.loop-at in
-    rw c.are_same.ensures
-    (l.invariant.0 ∙ listed_step c.args.pairs.now l.at _ (omega arith))
+pub returns-then-eq : goal.returns-then-eq
+returns-then-eq c =
+    let rest = c.loop-rest.rest.now in
+    let p = c.args.pair in
+    let same : (eqb (get_or rest 0 0) p.kdf && eqb (get_or rest 1 0) p.aead) ≡ true = sym c.eq.ensures ∙ c.if-eq.true in
+    sym (c.loop-rest.invariant ∙ listed_step rest p c.in-len2-up.len_at_least ∙ rw same)
 
-pub returns-then-are_same : goal.returns-then-are_same
-returns-then-are_same c = rw (one_on (goal.at.returns-then-are_same c).After-are_same, c.if-are_same.true)
-
-pub loop-at-preserved : goal.loop-at-preserved
-loop-at-preserved c = (rw (one_on (goal.at.loop-at-preserved c).After-are_same, c.if-are_same.false), omega arith)
+pub loop-rest-preserved : goal.loop-rest-preserved
+loop-rest-preserved c =
+    let rest = c.loop-rest.rest.now in
+    let p = c.args.pair in
+    let other : (eqb (get_or rest 0 0) p.kdf && eqb (get_or rest 1 0) p.aead) ≡ false = sym c.eq.ensures ∙ c.if-eq.false in
+    let others : take (length rest - 2) (drop 2 rest) ≡ drop 2 rest = grind (arith, common_steps) in
+    c.loop-rest.invariant ∙ listed_step rest p c.in-len2-up.len_at_least ∙ rw other (ap (λ xs. listed xs p) (sym others))
 
 pub returns : goal.returns
-returns c =
-    let l = c.loop-at in
-    rw (l.invariant.0, listed_end c.args.pairs.now l.at _ (omega arith))
+returns c = rw (c.loop-rest.invariant, listed_end c.loop-rest.rest.now _ (omega arith))

@@ -1,25 +1,13 @@
--- `client::split::ciphertext` meets its contract: the part from the place that `check` answers.
+-- `client::split::ciphertext` meets its contract: `check` answers where the parts meet, within the response.
 -- Assumes nothing.
-use mathlib.Core.Path.{sym, ◌∙◌}
-use Prim.Native.Nat.{◌+◌, ◌≤◌}
-use native.Mathlib.Omega.{arith}
-use lib.Seq.{take-length}
-use lib.ListN.{length-drop, length}
+use Rattle.std.proofs.Common.{◌+◌, ◌≤◌, length, sym, arith}
 use Rattle.algorithms.specs.Sizes.{nonce_length, tag_length}
 use Rattle.client.proofs.Parts.{meets_within}
 use Rattle.client.proofs.split.ciphertext.Goals as goal
-use Rattle.client.proofs.split.ciphertext.Goals.{In-NonceEnd}
+use Rattle.client.proofs.split.ciphertext.Goals.{In-Ok}
 
--- `check` answers where the parts meet, within the response
-within : (c : In-NonceEnd)
-    → (nonce_length ≤ c.in-NonceEnd.at) × (c.in-NonceEnd.at + tag_length ≤ length c.args.response.now)
-within c = meets_within c.args.aead.0 _ _ (sym c.check.ensures ∙ c.in-NonceEnd.is)
-
-pub returns-in-NonceEnd : goal.returns-in-NonceEnd
-returns-in-NonceEnd c = rw (← c.check.ensures, c.in-NonceEnd.is, ← length-drop, take-length)
-
-pub returns-in-Refused : goal.returns-in-Refused
-returns-in-Refused c = rw (← c.check.ensures, c.in-Refused.is)
+within : (c : In-Ok) → (nonce_length ≤ c.in-Ok.at) × (c.in-Ok.at + tag_length ≤ length c.args.response.now)
+within c = meets_within c.args.aead.0 _ _ (sym c.in-Ok.ensures)
 
 pub slice_bounds-result-count : goal.slice_bounds-result-count
 slice_bounds-result-count c = omega (arith, within c)

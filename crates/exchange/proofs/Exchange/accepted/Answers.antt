@@ -7,10 +7,10 @@ use Rattle.exchange.proofs.Exchange.accepted.Goals as goal
 use Rattle.exchange.proofs.Exchange.accepted.Goals.{In-Respond}
 
 -- the lengths of a response
-held : (c : In-Respond) → (let a = c.args in Lengths a.enc a.nonce c.in-Respond.plain a.self)
+held : (c : In-Respond) → (let a = c.args in Lengths a.enc a.nonce c.in-Respond.plain a.self.now)
 held c =
     let a = c.args in
-    lengths a.enc a.nonce c.in-Respond.plain a.self (rw c.in-Respond.is at c.requires)
+    lengths a.enc a.nonce c.in-Respond.plain a.self.now (rw c.in-Respond.is at c.requires)
 
 pub overflow_add-result : goal.overflow_add-result
 overflow_add-result c = record { fits = omega (arith, (held c).is_short, (held c).nonce_bound) }

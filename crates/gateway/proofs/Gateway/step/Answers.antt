@@ -1,22 +1,26 @@
--- `gateway::Gateway::step` meets its contract: what the call leaves of the exchange is put in its place.
+-- `gateway::Gateway::step` meets its contract: what the call leaves of the exchange stands in its place.
 -- Assumes nothing.
-use mathlib.Core.Path.{ap, ◌∙◌}
+use Rattle.std.proofs.Common.{◌≡◌, ◌<◌, ◌≤◌, length, rules, arith}
 use Rattle.exchange.specs.Steps.{step}
-use Rattle.gateway.specs.Calls.{of_step}
-use Rattle.gateway.proofs.Lengths.{full_table}
-use Rattle.gateway.proofs.Results.{stepped, put_at}
+use Rattle.gateway.specs.Engines.{place_by, has_number}
+use Rattle.gateway.proofs.Results.{stepped, not_pending}
 use Rattle.gateway.proofs.Gateway.step.Goals as goal
+
+pub returns-then-place-eq-TABLE_SIZE : goal.returns-then-place-eq-TABLE_SIZE
+returns-then-place-eq-TABLE_SIZE c =
+    let a = c.args in
+    let g = a.self.now in
+    let size : length g.table ≡ 128 = search rules in
+    let out : length g.table ≤ place_by a.engine a.ticket.0 (has_number a.ticket.0) g.table = omega (arith, c.find-place.ensures.value) in
+    let does = not_pending a.engine g a.ticket.0 (step a.kind a.enc.now a.nonce.now a.salt.now) out in
+    rw c.from.ensures (record { gateway = does.gateway; answer = does.answer; buffer = does.buffer })
 
 pub returns : goal.returns
 returns c =
-    let told = c.step.ensures in
-    let nothing = c.nothing.ensures in
-    let find = c.find-found.ensures in
     let a = c.args in
-    let call = step a.kind a.enc.now a.nonce.now a.salt.now in
-    let does = stepped a.engine a.self (full_table a.self _ c.well_formed.0) a.ticket.0 call in record {
-      fits = rw told.change (nothing.fits.0, find.below);
-      gateway = rw told.change (put_at a.self _ nothing.gateway _ _ ∙ rw (find.exchange, find.place) does.0);
-      answer = ap of_step told.answer ∙ rw (find.exchange, find.place) does.1;
-      buffer = told.buffer ∙ rw (find.exchange, find.place) does.2;
-    }
+    let g = a.self.now in
+    let size : length g.table ≡ 128 = search rules in
+    let inside : place_by a.engine a.ticket.0 (has_number a.ticket.0) g.table < length g.table = omega (arith, c.find-place.ensures.value, c.find-place.ensures.bound) in
+    let does = stepped a.engine g a.ticket.0 (step a.kind a.enc.now a.nonce.now a.salt.now) inside in
+    let told = c.step.ensures in
+    rw (told.answer, told.next, told.buffer, c.find-place.ensures.value) (record { gateway = does.gateway; answer = does.answer; buffer = does.buffer })

@@ -1,15 +1,10 @@
--- `gateway::table::count_pending` meets its contract. The loop's invariant: the count and what is pending in the rest is all.
+-- `gateway::table::count_pending` meets its contract. The loop's invariant: how many of the exchanges so far are pending, of as many as there were.
 -- Assumes nothing.
-use mathlib.Core.Path.{◌≡◌}
-use Prim.Native.Nat.{◌+◌, ◌-◌, ◌≤◌}
-use lib.ListN.{length, drop}
-use Rattle.gateway.specs.View.{pending_in}
-use Rattle.gateway.specs.Registry.{table_size}
+use Rattle.std.proofs.Common.{◌≡◌, ◌≤◌, take, not}
+use Rattle.std.specs.List.{count_by}
+use Rattle.exchange.specs.Exchange.{is_free}
 use Rattle.gateway.proofs.table.count_pending.Given as goal
 
-abbrev pub invariant-loop-at : goal.invariant-loop-at
-invariant-loop-at l =
-    (l.at ≤ table_size) × (l.count ≤ l.at) × (l.count + length (pending_in (drop l.at l.table)) ≡ length (pending_in l.table))
-
-abbrev pub decreases-loop-at : goal.decreases-loop-at
-decreases-loop-at l = table_size - l.at
+abbrev pub invariant-loop-exchange : goal.invariant-loop-exchange
+invariant-loop-exchange l =
+    (l.count ≡ count_by (λ e. not (is_free e)) (take l.exchange-index l.table)) × (l.count ≤ l.exchange-index)

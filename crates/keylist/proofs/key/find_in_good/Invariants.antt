@@ -10,9 +10,9 @@ use Prim.Native.Nat.{◌-◌}
 use lib.ListN.{length}
 use Rattle.keylist.proofs.key.find_in_good.Given as goal
 
-abbrev pub invariant-loop-at : goal.invariant-loop-at
-invariant-loop-at l =
-    (w : GoodFrom l.list l.at) × (key_place_in l.id (parse l.list) ≡ first_with_id l.id w.rest)
+abbrev pub invariant-loop-place : goal.invariant-loop-place
+invariant-loop-place l =
+    (w : GoodFrom l.list l.at) × (key_place_in l.id.0 (parse l.list) ≡ first_with_id l.id.0 w.rest)
 
-abbrev pub decreases-loop-at : goal.decreases-loop-at
-decreases-loop-at l = length l.list - l.at
+abbrev pub decreases-loop-place : goal.decreases-loop-place
+decreases-loop-place l = length l.list - l.at

@@ -1,28 +1,22 @@
--- `keys::Keys::report` meets its contract. The loop's invariant: the reports of the keys passed stand first in the array.
+-- `keys::Keys::report` meets its contract: one report more in each turn, for as many keys as there are.
 -- Assumes nothing.
-use mathlib.Core.Path.{◌≡◌, refl, ◌∙◌}
-use Prim.Native.Nat.{min}
-use native.Mathlib.Omega.{arith}
-use Rattle.keys.specs.Keys.{stored_reports, keys_of}
-use Rattle.keys.proofs.Stored.{full, reports_more, reports_all}
+use Rattle.std.proofs.Common.{◌≡◌, ◌<◌, ◌∙◌, length, min, rules, arith}
+use lib.ListN.{length-take}
+use lib.Seq.{get_or-take}
+use Rattle.keys.proofs.Stored.{unread, length_keys, reports_more, reports_all}
 use Rattle.keys.proofs.Keys.report.Goals as goal
-use Rattle.keys.proofs.Keys.report.Goals.{At-loop-at}
-
-pub loop-at-init : goal.loop-at-init
-loop-at-init c = (refl, omega arith, omega arith)
-
--- the reports of all keys
-all : (c : At-loop-at)
-    → let self = c.args.self in c.loop-at.at ≡ min self.count 16 → c.loop-at.reports ≡ stored_reports (keys_of self)
-all c e = c.loop-at.invariant.0 ∙ reports_all c.args.self (full c.args.self _ c.well_formed.0) c.loop-at.at e
-
-pub returns-then-count-at : goal.returns-then-count-at
-returns-then-count-at c = all (goal.at.returns-then-count-at c).At-loop-at (omega arith)
 
 pub loop-at-preserved : goal.loop-at-preserved
 loop-at-preserved c =
-    let l = c.loop-at in
-    (rw (c.report.ensures, l.invariant.0) (reports_more c.args.self (full c.args.self _ c.well_formed.0) l.at (omega arith)), omega arith, omega arith)
+    let keys = c.args.self.now in
+    let whole : length keys.list ≡ 16 = search rules in
+    let below : c.loop-at.at < c.number.result = omega (arith, length-take c.number.result keys.list) in
+    rw (c.report.ensures, c.loop-at.invariant, get_or-take c.number.result keys.list c.loop-at.at unread below)
+    (reports_more keys whole c.loop-at.at (omega (arith, c.number.ensures.bound)))
 
 pub returns : goal.returns
-returns c = all (goal.at.returns c).At-loop-at (omega arith)
+returns c =
+    let keys = c.args.self.now in
+    let whole : length keys.list ≡ 16 = search rules in
+    let all : c.loop-at.at ≡ min keys.count 16 = omega (arith, length_keys keys whole, c.number.ensures.value, length-take c.number.result keys.list) in
+    c.loop-at.invariant ∙ reports_all keys whole c.loop-at.at all

@@ -1,9 +1,0 @@
--- `algorithms::Aead::key_length` meets its contract.
--- Assumes nothing.
-use Rattle.algorithms.specs.Sizes.{known_aead, key_length}
-use mathlib.Core.Path.{◌∙◌}
-use Rattle.algorithms.proofs.Aead.key_length.Goals as goal
-
-pub returns : goal.returns
-unfolding known_aead key_length
-returns c = c.size.ensures ∙ rw c.row-row.ensures

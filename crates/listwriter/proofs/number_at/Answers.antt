@@ -1,8 +1,0 @@
--- `listwriter::number_at` meets its contract.
--- Assumes nothing.
-use lib.ListN.{get_or-eq_default}
-use mathlib.Core.Path.{sym}
-use Rattle.listwriter.proofs.number_at.Goals as goal
-
-pub returns-else-at-numbers : goal.returns-else-at-numbers
-returns-else-at-numbers c = sym (get_or-eq_default c.args.numbers.now 0 c.if-at-numbers.false)

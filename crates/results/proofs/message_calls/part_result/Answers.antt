@@ -1,9 +1,0 @@
--- `results::message_calls::part_result` meets its contract.
--- Assumes nothing.
-use Rattle.results.proofs.message_calls.part_result.Goals as goal
-
-pub returns-in-Found : goal.returns-in-Found
-returns-in-Found c = cc
-
-pub returns-in-Refused : goal.returns-in-Refused
-returns-in-Refused c = cc

@@ -1,9 +1,0 @@
--- `sealwax::client_lines::put_numbers` is safe and ends. The measure is how many numbers are left.
--- Assumes nothing.
-use Rattle.sealwax.proofs.client_lines.put_numbers.Given as goal
-
-abbrev pub invariant-loop-left : goal.invariant-loop-left
-invariant-loop-left l = Unit {0}
-
-abbrev pub decreases-loop-left : goal.decreases-loop-left
-decreases-loop-left l = l.left
