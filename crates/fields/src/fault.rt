@@ -1,5 +1,6 @@
 // What is wrong with a message.
-ghost use Rattle.std.specs.Prelude.{◌≡◌};
+ghost use Rattle.std.specs.Prelude.{◌≡◌, ◌++◌, Some, codes};
+ghost use Rattle.std.specs.Fmt.{decimal};
 ghost use Rattle.wire.specs.Refusals.{refused_at};
 
 use std::error::Error;
@@ -13,6 +14,8 @@ pub struct BadMessage {
 }
 
 impl fmt::Display for BadMessage {
+    ghost output = { λ bad. Some (codes "the message is wrong at " ++ decimal bad.place) };
+
     fn fmt<W: fmt::Write>(&self, f: &mut fmt::Formatter<W>) -> fmt::Result {
         write!(f, "the message is wrong at {}", self.place)
     }

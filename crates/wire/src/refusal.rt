@@ -1,6 +1,6 @@
 // The refusals of 01 and of 02, A2 and A3.
-ghost use Rattle.std.specs.Prelude.{◌≡◌};
-ghost use Rattle.wire.specs.Reasons.{number_of};
+ghost use Rattle.std.specs.Prelude.{◌≡◌, Some};
+ghost use Rattle.wire.specs.Reasons.{number_of, text_of};
 ghost use Rattle.wire.specs.Refusals.{refused, refused_at};
 
 use std::error::Error;
@@ -71,6 +71,8 @@ impl Reason {
 }
 
 impl fmt::Display for Reason {
+    ghost output = { λ reason. Some (text_of reason) };
+
     fn fmt<W: fmt::Write>(&self, f: &mut fmt::Formatter<W>) -> fmt::Result {
         f.write_str(match self {
             Reason::TooShort => "too short",
