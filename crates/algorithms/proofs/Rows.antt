@@ -11,7 +11,8 @@ abbrev pub every : (Row → Bool) → List Row → Bool
 every test [] = true
 every test (row ∷ rows) = test row and every test rows
 
-at_found : (test sought : Row → Bool) (rows : List Row) → every test rows ≡ true
+-- what passes at every row passes at the row that a lookup by any test finds, and that row passes the lookup's
+pub at_found : (test sought : Row → Bool) (rows : List Row) → every test rows ≡ true
     → IfSome (find sought rows) (λ row. (test row ≡ true) × (sought row ≡ true))
 at_found test sought [] t = tt
 at_found test sought (row ∷ rows) t =

@@ -1,7 +1,7 @@
 -- The statements of specs/Stated, proved.
 -- Assumes nothing.
 use Rattle.std.specs.List.{list_any}
-use Rattle.std.proofs.Common.{◌||◌, ◌≡◌, refl, ◌∙◌, ℕ, ◌≤◌, ◌<◌, Bool, true, false, List, [], ◌∷◌, ◌++◌, map, Option, Some, None, is_some, option_map, IfSome, eqb, leb, ltb, arith, eq-eqb, leb-true, ltb-true}
+use Rattle.std.proofs.Common.{◌||◌, ◌≡◌, refl, ◌∙◌, ℕ, ◌≤◌, ◌<◌, Bool, true, false, List, [], ◌∷◌, ◌++◌, map, Option, Some, None, is_some, option_map, find, IfSome, eqb, leb, ltb, arith, eq-eqb, leb-true, ltb-true}
 use Rattle.wire.specs.Tests.{pick}
 use Rattle.wire.specs.Search.{among}
 use Rattle.wire.proofs.Booleans.{either, and_left, true_or_false}
@@ -55,38 +55,42 @@ same-kind Kind.Kdf = refl
 same-kind Kind.Aead = refl
 
 -- a lookup looks at the first row, and then at the others
-in_first : (kind : Kind) (number : ℕ) (row : Row) (rows : List Row) → row_in (row ∷ rows) kind number ≡ pick (is_row kind number row) (Some row) (row_in rows kind number)
-in_first kind number row rows = either (is_row kind number row) (λ is. rw is) (λ is. rw is)
+in_first : (test : Row → Bool) (row : Row) (rows : List Row) → find test (row ∷ rows) ≡ pick (test row) (Some row) (find test rows)
+in_first test row rows = either (test row) (λ is. rw is) (λ is. rw is)
 
 none_first : (is : Bool) {rest : Bool} → (is || rest) ≡ false → (is ≡ false) × (rest ≡ false)
 none_first true h = absurd (true_or_false refl h)
 none_first false h = (refl, h)
 
-found_first : (before behind : List Row) (row : Row) → list_any (is_row row.kind row.number) before ≡ false
-    → row_in (before ++ row ∷ behind) row.kind row.number ≡ Some row
-found_first [] behind row h = in_first row.kind row.number row behind ∙ rw (same-kind row.kind, eq-eqb row.number row.number refl)
-found_first (x ∷ before) behind row h =
-    let is = none_first (is_row row.kind row.number x) h in
-    in_first row.kind row.number x (before ++ row ∷ behind) ∙ rw is.0 (found_first before behind row is.1)
+found_first : (test : Row → Bool) (before behind : List Row) (row : Row) → test row ≡ true → list_any test before ≡ false
+    → find test (before ++ row ∷ behind) ≡ Some row
+found_first test [] behind row passes h = in_first test row behind ∙ rw passes
+found_first test (x ∷ before) behind row passes h =
+    let is = none_first (test x) h in
+    in_first test x (before ++ row ∷ behind) ∙ rw is.0 (found_first test before behind row passes is.1)
 
-not_found : (rows : List Row) (kind : Kind) (number : ℕ) → list_any (is_row kind number) rows ≡ false → row_in rows kind number ≡ None
-not_found [] kind number h = refl
-not_found (row ∷ rows) kind number h =
-    let is = none_first (is_row kind number row) h in
-    in_first kind number row rows ∙ rw is.0 (not_found rows kind number is.1)
+not_found : (test : Row → Bool) (rows : List Row) → list_any test rows ≡ false → find test rows ≡ None
+not_found test [] h = refl
+not_found test (row ∷ rows) h =
+    let is = none_first (test row) h in
+    in_first test row rows ∙ rw is.0 (not_found test rows is.1)
+
+-- where the row is found, it is the changed one; else the others are looked at, changed
+found_changed : (test : Row → Bool) (change : Row → Row) → ((row : Row) → test (change row) ≡ test row) → (rows : List Row)
+    → find test (map change rows) ≡ option_map change (find test rows)
+found_changed test change same [] = refl
+found_changed test change same (row ∷ rows) =
+    in_first test (change row) (map change rows)
+    ∙ rw (same row, found_changed test change same rows, in_first test row rows)
+    (either (test row) (λ is. rw is) (λ is. rw is))
+
+-- a row is that of its kind and its number
+own_row : (row : Row) → is_row row.kind row.number row ≡ true
+own_row row = rw (same-kind row.kind, eq-eqb row.number row.number refl)
 
 -- another Nenc leaves kind and number
 same_number : (kem nenc : ℕ) (kind : Kind) (number : ℕ) (row : Row) → is_row kind number (with_nenc kem nenc row) ≡ is_row kind number row
 same_number kem nenc kind number row = either (is_row Kind.Kem kem row) (λ is. rw is) (λ is. rw is)
-
--- where the row is found, it is the changed one; else the others are looked at, changed
-nenc-changed : (rows : List Row) (kem nenc : ℕ) (kind : Kind) (number : ℕ)
-    → row_in (map (with_nenc kem nenc) rows) kind number ≡ option_map (with_nenc kem nenc) (row_in rows kind number)
-nenc-changed [] kem nenc kind number = refl
-nenc-changed (row ∷ rows) kem nenc kind number =
-    in_first kind number (with_nenc kem nenc row) (map (with_nenc kem nenc) rows)
-    ∙ rw (same_number kem nenc kind number row, nenc-changed rows kem nenc kind number, in_first kind number row rows)
-    (either (is_row kind number row) (λ is. rw is) (λ is. rw is))
 
 pub read_from_the_table : ReadFromTheTable
 unfolding known_kem known_kdf known_aead enc_length public_key_length key_length row_of
@@ -97,9 +101,12 @@ read_from_the_table =
       kdf_known = λ number. refl;
       aead_sizes = λ number. (refl, refl);
       response_nonces = λ number. refl;
-      found = found_first;
-      unknown = not_found;
-      nenc_changed = nenc-changed;
+      found = λ before behind row none. found_first (is_row row.kind row.number) before behind row (own_row row) none;
+      unknown = λ rows kind number none. not_found (is_row kind number) rows none;
+      nenc_changed = λ rows kem nenc kind number. found_changed (is_row kind number) (with_nenc kem nenc) (same_number kem nenc kind number) rows;
+      found_by = λ test before behind row passes none. found_first test before behind row passes none;
+      unknown_by = λ test rows none. not_found test rows none;
+      nenc_changed_by = λ test rows kem nenc same. found_changed test (with_nenc kem nenc) same rows;
     }
 
 no-key : (row : Option Row) → is_some row ≡ false → size_in (λ r. r.public_key) row ≡ 0

@@ -1,7 +1,7 @@
 -- What 01's table says, as one computed statement about the definitions; which numbers are known, over every number; that a lookup
 -- reads the table alone, over every table; and the facts about sizes that other crates use, over every number.
 use Rattle.std.specs.List.{list_any}
-use Rattle.std.specs.Prelude.{ℕ, ◌+◌, max, ◌≤◌, ◌<◌, ◌≡◌, true, false, List, [], ◌∷◌, ◌++◌, map, Some, None, is_some, option_map}
+use Rattle.std.specs.Prelude.{ℕ, ◌+◌, max, ◌≤◌, ◌<◌, ◌≡◌, Bool, true, false, List, [], ◌∷◌, ◌++◌, map, Some, None, is_some, option_map, find}
 use Rattle.wire.specs.Texts.{head_length}
 use Rattle.wire.specs.Tests.{pick}
 use Rattle.wire.specs.Search.{among}
@@ -41,7 +41,7 @@ with_nenc kem nenc row = pick (is_row Kind.Kem kem row) (table_row row.kind row.
 
 -- 02, A4: for every number the sizes are those of the row that a lookup in the table finds; and whatever rows a table has, a lookup gives the first
 -- row of its kind and number as it stands there, and none where there is none. With only one row's Nenc changed it gives that row with the
--- new Nenc, and every other as before.
+-- new Nenc, and every other as before. The last three say the same of a lookup by any test of a row.
 pub record ReadFromTheTable : Type 0 where
   pub kem_sizes : (number : ℕ) → let row = row_in table Kind.Kem number in
       (known_kem number ≡ is_some row) × (enc_length number ≡ size_in (λ r. r.enc) row) × (public_key_length number ≡ size_in (λ r. r.public_key) row)
@@ -54,6 +54,11 @@ pub record ReadFromTheTable : Type 0 where
   pub unknown : (rows : List Row) (kind : Kind) (number : ℕ) → list_any (is_row kind number) rows ≡ false → row_in rows kind number ≡ None
   pub nenc_changed : (rows : List Row) (kem nenc : ℕ) (kind : Kind) (number : ℕ)
       → row_in (map (with_nenc kem nenc) rows) kind number ≡ option_map (with_nenc kem nenc) (row_in rows kind number)
+  pub found_by : (test : Row → Bool) (before behind : List Row) (row : Row) → test row ≡ true → list_any test before ≡ false
+      → find test (before ++ row ∷ behind) ≡ Some row
+  pub unknown_by : (test : Row → Bool) (rows : List Row) → list_any test rows ≡ false → find test rows ≡ None
+  pub nenc_changed_by : (test : Row → Bool) (rows : List Row) (kem nenc : ℕ) → ((row : Row) → test (with_nenc kem nenc row) ≡ test row)
+      → find test (map (with_nenc kem nenc) rows) ≡ option_map (with_nenc kem nenc) (find test rows)
 
 -- a bound for sums, not a size: neither a key nor a response nonce is longer
 abbrev pub size_bound : ℕ

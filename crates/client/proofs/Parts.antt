@@ -44,11 +44,11 @@ module _ (aead size : ℕ) where
       unfolding split_refusal
       too_long l = let is = known _ _ _ k in rw (is.0, is.1, le-ltb _ _ s, lt-ltb _ _ l)
 
-      pub whole : size ≤ nonce + longest_plain + tag_length → split_answer aead size ≡ Ok nonce
+      pub parts_meet : size ≤ nonce + longest_plain + tag_length → split_answer aead size ≡ Ok nonce
       unfolding split_refusal
-      whole l = let is = known _ _ _ k in rw (is.0, is.1, le-ltb _ _ s, le-ltb _ _ l)
+      parts_meet l = let is = known _ _ _ k in rw (is.0, is.1, le-ltb _ _ s, le-ltb _ _ l)
 
-pub ruleset answers = (unknown_aead, whole)
+pub ruleset answers = (unknown_aead, parts_meet)
 
 -- a nonce is there, and a tag behind it
 pub meets_within : (aead size at : ℕ) → split_answer aead size ≡ Ok at

@@ -7,7 +7,7 @@ ghost use Rattle.client.specs.Choose.{listed, usable_pair, choose_from};
 ghost use Rattle.client.specs.Helpers.{pair_found};
 
 use algorithms::{Aead, Kdf, is_known_pair};
-use keylist::check::{check, first_read, place_at};
+use keylist::check::{check, first_read, place_in};
 use keylist::{KeyId, Pair};
 use wire::bytes::word_at;
 use wire::refusal::{Reason, Refusal};
@@ -40,7 +40,7 @@ fn choose_in_good(list: &[u8], kems: &[u16], pairs: &[u16]) -> Result<Choice, Re
     ensures { result ≡ choose_from kems.now pairs.now (parse list.now) }
 {
     let mut at = first_read(list, 0);
-    while let Some(place) = place_at(list, at) {
+    while let Some(place) = place_in(list, at) {
         if is_listed_kem(kems, place.kem) {
             let count = (word_at(list, place.key.end) as usize) / 4;
             if let Some(pair) = first_usable(list, place.key.end + 2, count, pairs) {

@@ -21,7 +21,7 @@ use Rattle.keylist.specs.declared.Place.{Place}
 use Rattle.keylist.specs.Before.{layout_holds}
 use Rattle.keylist.specs.Layout.{Configuration, parse, configuration_at, key_id_at, kem_at, key_start, key_end, most_configurations}
 use Rattle.keylist.specs.Answers.{configuration_with, key_place, key_place_in, key_part, span}
-use Rattle.keylist.specs.Helpers.{place_of, place_at}
+use Rattle.keylist.specs.Helpers.{place_of, place_in}
 use Rattle.keylist.specs.Stated.{EmptyOnRefusal, PublicKeyExactly}
 use Rattle.keylist.proofs.LayoutLaws.{Holds, holds}
 use Rattle.keylist.proofs.Parsing.{by_reading, holding}
@@ -31,19 +31,19 @@ use Rattle.keylist.proofs.Walk.{parse_all, key_length_at}
 abbrev pub first_with_id : ℕ → List Configuration → Result Span Refusal
 first_with_id id cs = key_place (configuration_with id cs)
 
-pub place_inside : (bytes : List ℕ) (at : ℕ) → at < length bytes → place_at bytes at ≡ Some (place_of bytes at)
+pub place_inside : (bytes : List ℕ) (at : ℕ) → at < length bytes → place_in bytes at ≡ Some (place_of bytes at)
 place_inside bytes at h = rw (lt-ltb at (length bytes) h)
 
 -- a place that was read: there is one exactly where the list goes on
-pub place_there : (bytes : List ℕ) (at : ℕ) (place : Place) → Some place ≡ place_at bytes at → (at < length bytes) × (place ≡ place_of bytes at)
+pub place_there : (bytes : List ℕ) (at : ℕ) (place : Place) → Some place ≡ place_in bytes at → (at < length bytes) × (place ≡ place_of bytes at)
 place_there bytes at place e =
     either (ltb at (length bytes)) (λ h. (ltb-true at (length bytes) h, cc (rw h at e))) (λ h. cc (rw h at e))
 
-pub no_place : (bytes : List ℕ) (at : ℕ) → place_at bytes at ≡ None → length bytes ≤ at
+pub no_place : (bytes : List ℕ) (at : ℕ) → place_in bytes at ≡ None → length bytes ≤ at
 no_place bytes at e = either (ltb at (length bytes)) (λ h. cc (rw h at e)) (λ h. ltb-false at (length bytes) h)
 
 -- a place that was read where a configuration keeps the rules
-pub good_place : {bytes : List ℕ} {at : ℕ} {place : Place} → layout_holds bytes at ≡ true → Some place ≡ place_at bytes at
+pub good_place : {bytes : List ℕ} {at : ℕ} {place : Place} → layout_holds bytes at ≡ true → Some place ≡ place_in bytes at
     → Holds bytes at × (place ≡ place_of bytes at)
 good_place {bytes} {at} h e = let is = holds bytes at h in (is, cc (e ∙ place_inside bytes at (omega (arith, is.whole))))
 

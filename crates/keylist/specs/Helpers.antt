@@ -32,8 +32,15 @@ place_of bytes at =
     }
 
 -- the same, and nothing past the end
-abbrev pub place_at : List ℕ → ℕ → Option Place
-place_at bytes at = then_some (ltb at (length bytes)) (place_of bytes at)
+abbrev pub place_in : List ℕ → ℕ → Option Place
+place_in bytes at = then_some (ltb at (length bytes)) (place_of bytes at)
+
+-- the same, and past the end all is 0, and the next one would start there
+abbrev pub place_at : List ℕ → ℕ → Place
+place_at bytes at =
+    pick (ltb at (length bytes))
+    (place_of bytes at)
+    (record { key_id = 0; kem = 0; key = span 0 0; next = at })
 
 -- the list reads into configurations
 abbrev pub IsGood : List ℕ → Type 0

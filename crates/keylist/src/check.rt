@@ -6,7 +6,7 @@ ghost use Rattle.algorithms.specs.Sizes.{public_key_length};
 ghost use Rattle.algorithms.specs.Stated.{size_bound};
 ghost use Rattle.keylist.specs.Layout.{fault_of, field_at_fault, is_skipped, kem_at, next_start, pair_bytes_hold};
 ghost use Rattle.keylist.specs.Answers.{checked};
-ghost use Rattle.keylist.specs.Helpers.{first_read, number_or_0, place_at};
+ghost use Rattle.keylist.specs.Helpers.{first_read, number_or_0, place_at, place_in};
 
 use crate::{Counts, Place};
 use algorithms::Kem;
@@ -151,8 +151,8 @@ pub fn check(list: &[u8]) -> Result<Counts, Refusal>
 }
 
 // The fields of the configuration whose length stands at an offset, where its parts lie, and where the next one that is read starts; none past the end.
-pub fn place_at(list: &[u8], at: usize) -> Option<Place>
-    ensures { result ≡ place_at list.now at }
+pub fn place_in(list: &[u8], at: usize) -> Option<Place>
+    ensures { result ≡ place_in list.now at }
 {
     if list.len() <= at {
         return None;
@@ -166,6 +166,18 @@ pub fn place_at(list: &[u8], at: usize) -> Option<Place>
             end: at + 5 + key_length(kem),
         },
         next: first_read(list, next_start(list, at)),
+    })
+}
+
+// The same at every offset: past the end all is 0, and the next one would start there.
+pub fn place_at(list: &[u8], at: usize) -> Place
+    ensures { result ≡ place_at list.now at }
+{
+    place_in(list, at).unwrap_or(Place {
+        key_id: 0,
+        kem: 0,
+        key: Span { start: 0, end: 0 },
+        next: at,
     })
 }
 

@@ -5,7 +5,7 @@ ghost use Rattle.keylist.specs.Answers.{key_place_in, key_part};
 ghost use Rattle.keylist.specs.Helpers.{IsGood};
 
 use crate::KeyId;
-use crate::check::{check, first_read, place_at};
+use crate::check::{check, first_read, place_in};
 use wire::refusal::{Reason, Refusal};
 use wire::span::Span;
 
@@ -33,7 +33,7 @@ fn find_in_good(list: &[u8], id: KeyId) -> Result<Span, Refusal>
     ensures { result ≡ key_place_in id.0 (parse list.now) }
 {
     let mut at = first_read(list, 0);
-    while let Some(place) = place_at(list, at) {
+    while let Some(place) = place_in(list, at) {
         if place.key_id == id.0 {
             return Ok(place.key);
         }

@@ -11,7 +11,7 @@ ghost use Rattle.keys.specs.Helpers.{refusal_by_key, found_key, keys_from, keys_
 ghost use Rattle.keys.specs.Stored.{most_pairs, no_pair, blank_key, stored_key, stored_keys, used_state, retired_state};
 
 use algorithms::{Aead, Kdf, is_known_pair};
-use keylist::check::{MOST_CONFIGURATIONS, MOST_PAIR_BYTES, check, first_read, place_at};
+use keylist::check::{MOST_CONFIGURATIONS, MOST_PAIR_BYTES, check, first_read, place_in};
 use keylist::{Counts, KeyId, Pair, Place};
 use request::Request;
 use wire::bytes::word_at;
@@ -214,7 +214,7 @@ fn read_good(list: &[u8]) -> Keys
     let mut keys = Keys::none();
     let mut count = 0;
     let mut at = first_read(list, 0);
-    while let Some(place) = place_at(list, at) {
+    while let Some(place) = place_in(list, at) {
         keys.list[count] = key_at(list, at, &place);
         count += 1;
         at = place.next;

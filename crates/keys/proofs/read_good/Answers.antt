@@ -52,4 +52,4 @@ pub overflow_cast-keys : goal.overflow_cast-keys
 overflow_cast-keys c = omega (arith, read_few _ c.loop-place.invariant)
 
 pub returns : goal.returns
-returns c = read_end _ c.loop-place.invariant (no_place _ _ (sym c.place_at.ensures ∙ c.in_default.is))
+returns c = read_end _ c.loop-place.invariant (no_place _ _ (sym c.place_in.ensures ∙ c.in_default.is))

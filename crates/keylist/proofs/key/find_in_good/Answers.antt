@@ -41,4 +41,4 @@ loop-place-preserved c =
 pub returns : goal.returns
 returns c =
     let l = c.loop-place in
-    rw (l.invariant.1, walk_end _ l.at l.invariant.0 (no_place _ _ (sym c.place_at.ensures ∙ c.in_default.is)), c.from.ensures)
+    rw (l.invariant.1, walk_end _ l.at l.invariant.0 (no_place _ _ (sym c.place_in.ensures ∙ c.in_default.is)), c.from.ensures)
