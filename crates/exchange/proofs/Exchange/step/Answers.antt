@@ -18,7 +18,9 @@ accepted c =
     (rw (own_accepted a.ticket.0 a.kind (length a.enc.now) (length a.nonce.now) (length a.salt.now) a.self.now none) at none)
 
 pub accepted-answer-requires : goal.accepted-answer-requires
-accepted-answer-requires c = (accepted (goal.at.accepted-answer-requires c).In_ok-refusal).lengths_hold
+accepted-answer-requires c =
+    let held = (accepted (goal.at.accepted-answer-requires c).In_ok-refusal).lengths_hold in
+    grind arith
 
 pub returns-clause-buffer : goal.returns-clause-buffer
 returns-clause-buffer c =
