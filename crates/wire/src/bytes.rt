@@ -29,5 +29,8 @@ pub fn overwrite(buffer: &mut [u8], at: usize, bytes: &[u8])
         return;
     }
     let count = bytes.len().min(buffer.len() - at);
-    buffer[at..at + count].copy_from_slice(&bytes[..count]);
+    // Byte by byte: `copy_from_slice` may call memmove, which the library takes from nobody.
+    for done in 0..count {
+        buffer[at + done] = bytes[done];
+    }
 }
