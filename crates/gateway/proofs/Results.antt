@@ -1,6 +1,6 @@
 -- What the calls give, by what they find in the gateway.
 -- Assumes nothing.
-use mathlib.Core.Path.{◌≡◌, refl, sym, ap, ◌∙◌}
+use mathlib.Core.Path.{◌≡◌, refl, ap, ◌∙◌}
 use mathlib.Core.Bool.{true}
 use mathlib.Core.List.{List, []}
 use Rattle.std.specs.Prelude.{Result, Ok, Err}
@@ -9,7 +9,7 @@ use native.Mathlib.Omega.{arith}
 use lib.Dec.{ltb}
 use lib.ListN.{length, get_or, take, set, replicate, length-append, length-take}
 use lib.Seq.{set-get_or}
-use borrow.Author.Tests.{le-leb, lt-leb, ltb-false}
+use borrow.Author.Tests.{ltb-false}
 use Rattle.wire.specs.Refusals.{◌when◌otherwise◌, refused, result_by, unless_refused, written}
 use Rattle.wire.specs.declared.refusal.Refusal.{Refusal}
 use Rattle.wire.specs.Bytes.{with_front}
@@ -25,12 +25,12 @@ use Rattle.exchange.specs.Exchange.{free, is_free, asked}
 use Rattle.exchange.specs.Steps.{Step, refusal_by, refusal, next, answer, buffer}
 use Rattle.exchange.specs.Moved.{of_ticket, after}
 use Rattle.keys.specs.declared.KeyState.{KeyState}
-use Rattle.keys.specs.Keys.{key_of, keys_of, key_with, retire_refusal}
+use Rattle.keys.specs.Keys.{keys_of, key_with, retire_refusal}
 use Rattle.keys.specs.Helpers.{key_refusal}
 use Rattle.keys.specs.Stored.{blank_key, used_state, retired_state, place_of_key}
 use Rattle.keys.proofs.Arrays.{get_d_any}
-use Rattle.keys.proofs.Named.{retire_refusal_at, retire_order}
-use Rattle.keys.proofs.Stored.{unread, length_keys, key-at}
+use Rattle.keys.proofs.Named.{err_of}
+use Rattle.keys.proofs.Stored.{unread}
 use Rattle.gateway.specs.declared.Gateway.{Gateway}
 use Rattle.gateway.specs.declared.admission.Admission.{Admission}
 use Rattle.gateway.specs.declared.admission.AdmitRefusal.{AdmitRefusal}
@@ -48,11 +48,6 @@ use Rattle.gateway.proofs.Places.{found_own, none_pending}
 pub err_by : {A : Type 0} (n : ℕ) (a : A) (r : Refusal) → Err r ≡ result_by n a → (r ≡ refused n) × (n ≡ 0 → ⊥)
 err_by zero a r e = cc
 err_by (suc n) a r e = (cc, λ z. absurd (omega arith))
-
--- and is the same whatever else would have been answered
-pub err_of : {A B : Type 0} (n : ℕ) (a : A) (b : B) (r : Refusal) → Err r ≡ result_by n a → Err r ≡ result_by n b
-err_of zero a b r e = cc
-err_of (suc n) a b r e = cc
 
 -- what a call leaves, answers and leaves of its buffer is what the gateway does
 pub record Gives (engine : Engine) (g : Gateway) (call : Call) (state : Gateway) (told : Answer) (bytes : List ℕ) : Type 0 where
@@ -117,54 +112,34 @@ with_key_at place key g =
       table = g.table;
     }
 
--- the place of a key that is there is one of the array's
-pub key_inside : (g : Gateway) → length g.keys.list ≡ 16 → (place : ℕ) → place < length (keys_of g.keys) → place < 16
-key_inside g whole place there = omega (arith, length_keys g.keys whole)
-
--- retire, by the key with the id
+-- retire, by what the keys answer
 module _ (engine : Engine) (g : Gateway) (id : ℕ) where
   abbrev key_place : ℕ
   key_place = place_of_key id (keys_of g.keys)
 
-  retire_by : (n : ℕ) → retire_refusal (key_with id (keys_of g.keys)) ≡ n
+  abbrev by_key : ℕ
+  by_key = retire_refusal (key_with id (keys_of g.keys))
+
+  retire_by : (n : ℕ) → by_key ≡ n
       → Gives engine g (retire id) (unless_refused n (gateway_retired id g) g) (of_retire (result_by n tt)) []
   unfolding gateway_does
   retire_by n e = record { gateway = rw e refl; answer = rw e refl; buffer = refl }
 
-  -- no key has the id
-  pub retired_none : length (keys_of g.keys) ≤ key_place → Gives engine g (retire id) g (of_retire (Err (refused 4))) []
-  unfolding retire_refusal_at
-  retired_none out =
-      retire_by 4 (sym (retire_order id (keys_of g.keys)) ∙ rw (le-leb (length (keys_of g.keys)) key_place out) refl)
+  -- they refuse
+  pub retired_refused : (r : Refusal) → Err r ≡ result_by by_key key_place → Gives engine g (retire id) g (of_retire (Err r)) []
+  retired_refused r e =
+      let does = retire_by by_key refl in
+      record {
+        gateway = unless-refused by_key (gateway_retired id g) g (err_by by_key key_place r e).1 ∙ does.gateway;
+        answer = ap of_retire (err_of by_key key_place tt r e) ∙ does.answer;
+        buffer = does.buffer;
+      }
 
-  module _ (whole : length g.keys.list ≡ 16) (there : key_place < length (keys_of g.keys)) where
-    abbrev key : KeyState
-    key = get_or g.keys.list key_place unread
-
-    abbrev by_key : ℕ
-    by_key = 7 when (key_of key).retired otherwise 0
-
-    is_number : retire_refusal (key_with id (keys_of g.keys)) ≡ by_key
-    unfolding retire_refusal_at
-    is_number =
-        sym (retire_order id (keys_of g.keys))
-        ∙ rw (lt-leb (length (keys_of g.keys)) key_place there, key-at g.keys whole key_place there) refl
-
-    -- the key refuses
-    pub retired_refused : (r : Refusal) → ◌≡◌ {A = Result (Unit {0}) Refusal} (Err r) (result_by by_key tt) → Gives engine g (retire id) g (of_retire (Err r)) []
-    retired_refused r e =
-        let does = retire_by by_key is_number in
-        record {
-          gateway = unless-refused by_key (gateway_retired id g) g (err_by by_key tt r e).1 ∙ does.gateway;
-          answer = ap of_retire e ∙ does.answer;
-          buffer = does.buffer;
-        }
-
-    -- the key is retired
-    pub retired_done : by_key ≡ 0 → Gives engine g (retire id) (with_key_at key_place (retired_state key) g) (of_retire (Ok tt)) []
-    retired_done none =
-        rw (get_d_any g.keys.list key_place unread blank_key (omega (arith, whole, key_inside g whole key_place there)))
-        (retire_by 0 (is_number ∙ none))
+  -- the key is retired
+  pub retired_done : length g.keys.list ≡ 16 → key_place < 16 → by_key ≡ 0
+      → Gives engine g (retire id) (with_key_at key_place (retired_state (get_or g.keys.list key_place unread)) g) (of_retire (Ok tt)) []
+  retired_done whole inside none =
+      rw (get_d_any g.keys.list key_place unread blank_key (omega (arith, whole, inside))) (retire_by 0 none)
 
 -- info at the front of its buffer
 info_written : (request info : List ℕ) → head_length ≤ length request → info_length ≤ length info
@@ -178,6 +153,16 @@ info_written request info h l =
 admit_err : (n ticket : ℕ) (request : List ℕ) → (n ≡ 0 → ⊥) → ◌≡◌ {A = Result Admission AdmitRefusal} (Err (refusal_of_admit n)) (admit_answer n ticket request)
 admit_err zero ticket request h = absurd (h refl)
 admit_err (suc n) ticket request h = refl
+
+-- a gateway with a last ticket, a key at a place and an exchange at a place
+abbrev pub with_admitted : ℕ → ℕ → KeyState → ℕ → Exchange → Gateway → Gateway
+with_admitted ticket key_place key place e g =
+    record {
+      last_ticket = record { 0 = ticket };
+      cap = g.cap;
+      keys = record { list = set g.keys.list key_place key; count = g.keys.count };
+      table = set g.table place e;
+    }
 
 -- admit, by what the request, its key and the place and room decide
 module _ (engine : Engine) (g : Gateway) (request info : List ℕ) where
@@ -231,12 +216,8 @@ module _ (engine : Engine) (g : Gateway) (request info : List ℕ) where
       -- nothing refuses
       pub admitted : length g.keys.list ≡ 16 → named < 16 → by_room ≡ 0
           → Gives engine g call
-          (record {
-            last_ticket = record { 0 = next_ticket g };
-            cap = g.cap;
-            keys = record { list = set g.keys.list named (used_state (get_or g.keys.list named unread)); count = g.keys.count };
-            table = set g.table (free_place engine (next_ticket g) g.table) (asked (next_ticket g) (fields_of request));
-          })
+          (with_admitted (next_ticket g) named (used_state (get_or g.keys.list named unread))
+          (free_place engine (next_ticket g) g.table) (asked (next_ticket g) (fields_of request)) g)
           (of_admit (Ok (admission (next_ticket g) (fields_of request) (length request))))
           (overwritten info 0 (info_bytes (overwritten (replicate head_length 0) 0 request)))
       admitted whole inside room =

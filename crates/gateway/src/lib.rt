@@ -6,10 +6,7 @@ ghost use Rattle.std.specs.Prelude.{◌≡◌, ◌<◌, IfOk};
 ghost use Rattle.wire.specs.Refusals.{result_by};
 ghost use Rattle.exchange.specs.Steps.{step};
 ghost use Rattle.keylist.specs.Answers.{skipped_in};
-ghost use Rattle.keylist.specs.Layout.{most_configurations};
-ghost use Rattle.keys.specs.Keys.{keys_of};
-ghost use Rattle.keys.specs.Stored.{place_of_key};
-ghost use Rattle.keys.specs.Helpers.{key_refusal, keys_of_parsed};
+ghost use Rattle.keys.specs.Helpers.{keys_of_parsed};
 ghost use Rattle.gateway.specs.declared.table.Engine.{Engine};
 ghost use Rattle.gateway.specs.Registry.{setup, setup_answer, table_size};
 ghost use Rattle.gateway.specs.Engines.{free_place};
@@ -24,7 +21,6 @@ use exchange::{Exchange, Move, StepAnswer, Ticket};
 use keylist::KeyId;
 use keylist::check::MOST_CONFIGURATIONS;
 use keys::{KeyReport, Keys, KeysRead};
-use request::Request;
 use wire::bytes::overwrite;
 use wire::refusal::{Reason, Refusal};
 use wire::texts;
@@ -91,7 +87,7 @@ impl Gateway {
         ensures buffer { info.new ≡ (gateway_does engine self.old (admit request.now info.old)).buffer }
     {
         let fields = request::read(request)?;
-        let key = self.key_for(&fields)?;
+        let key = self.keys.admits(self.cap, &fields)?;
         let ticket = next_ticket(self.last_ticket);
         let place = self.place_for(engine, ticket, info.len())?;
         overwrite(info, 0, &request::info(request));
@@ -131,10 +127,8 @@ impl Gateway {
         ensures gateway { (engine : Engine) → self.new ≡ (gateway_does engine self.old (retire id.0)).state }
         ensures answer { (engine : Engine) → of_retire result ≡ (gateway_does engine self.old (retire id.0)).answer }
     {
-        let place = self.keys.find(id).ok_or(Reason::NoSuchKey)?;
-        let key = &mut self.keys.list[place];
-        key.retire_refusal()?;
-        key.retire();
+        let place = self.keys.retirable(id)?;
+        self.keys.list[place].retire();
         Ok(())
     }
 
@@ -149,18 +143,6 @@ impl Gateway {
             key_count: self.keys.number(),
             keys: self.keys.report(),
         }
-    }
-
-    // The place of the key that a request names, or why it is not admitted by that key.
-    fn key_for(&self, request: &Request) -> Result<usize, Refusal>
-        ensures value { result ≡ result_by
-            (key_refusal self.now.cap (keys_of self.now.keys) (place_of_key request.now.key_id.0 (keys_of self.now.keys)) request.now)
-            (place_of_key request.now.key_id.0 (keys_of self.now.keys)) }
-        ensures bound { IfOk result (λ place. place < most_configurations) }
-    {
-        let place = self.keys.find(request.key_id).ok_or(Reason::NoSuchKey)?;
-        self.keys.list[place].refusal(self.cap, request)?;
-        Ok(place)
     }
 
     // A free place for an exchange, where there is one and info has room.

@@ -5,19 +5,25 @@ use mathlib.Core.Bool.{not}
 use mathlib.Core.List.{List, [], ◌∷◌}
 use mathlib.Core.Option.{Option as Maybe}
 use Rattle.std.specs.Prelude.{Option, Ok, Err, ok_or}
+use Rattle.wire.specs.declared.refusal.Refusal.{Refusal}
 use Rattle.wire.specs.declared.refusal.Reason.{Reason}
-use Prim.Native.Nat.{ℕ, ◌≤◌, ◌<◌}
+use Prim.Native.Nat.{ℕ, zero, suc, ◌≤◌, ◌<◌}
 use borrow.Author.Tests.{leb-true, leb-false, ltb-true, ltb-false}
 use lib.Dec.{eqb, leb, ltb}
 use lib.ListN.{length, set}
 use Rattle.wire.specs.Search.{first_place, is_none, is_some_and}
-use Rattle.wire.specs.Refusals.{◌when◌otherwise◌}
+use Rattle.wire.specs.Refusals.{◌when◌otherwise◌, result_by}
 use Rattle.wire.proofs.Booleans.{either}
 use Rattle.wire.proofs.Matches.{that_inside, that_outside}
 use Rattle.request.specs.declared.Request.{Request}
 use Rattle.keys.specs.Keys.{Key, has_id, key_with, offers, retire_refusal, with_key}
 use Rattle.keys.specs.Helpers.{no_key, key_at, refusal_by_key, key_refusal, found_key}
 use Rattle.keys.specs.Stored.{place_of_key}
+
+-- a refusal is the same whatever else would have been answered
+pub err_of : {A B : Type 0} (n : ℕ) (a : A) (b : B) (r : Refusal) → Err r ≡ result_by n a → Err r ≡ result_by n b
+err_of zero a b r e = cc
+err_of (suc n) a b r e = cc
 
 -- the keys with the one at a place changed
 abbrev pub changed_at : (Key → Key) → ℕ → List Key → List Key

@@ -1,14 +1,14 @@
 // The gateway's keys: made of a key list, found by id, each with its pairs, its use count and its retirement.
 #![tactic(auto)]
 
-ghost use Rattle.std.specs.Prelude.{◌≡◌, ◌≤◌, ◌<◌, ◌+◌, ◌*◌, true, [], length, IfSome};
+ghost use Rattle.std.specs.Prelude.{◌≡◌, ◌≤◌, ◌<◌, ◌+◌, ◌*◌, true, [], length, IfSome, IfOk};
 ghost use Rattle.wire.specs.Refusals.{◌when◌otherwise◌, result_by};
 ghost use Rattle.keylist.specs.Before.{layout_holds};
 ghost use Rattle.keylist.specs.Layout.{parse, configuration_at, pairs_at, most_configurations};
 ghost use Rattle.keylist.specs.Helpers.{IsGood, place_of};
-ghost use Rattle.keys.specs.Keys.{offers, report_of, blank_report, stored_reports, key_of, keys_of, padded};
-ghost use Rattle.keys.specs.Helpers.{refusal_by_key, found_key, keys_from, keys_read};
-ghost use Rattle.keys.specs.Stored.{most_pairs, no_pair, blank_key, stored_key, stored_keys, used_state, retired_state};
+ghost use Rattle.keys.specs.Keys.{offers, key_with, retire_refusal, report_of, blank_report, stored_reports, key_of, keys_of, padded};
+ghost use Rattle.keys.specs.Helpers.{refusal_by_key, key_refusal, found_key, keys_from, keys_read};
+ghost use Rattle.keys.specs.Stored.{most_pairs, no_pair, blank_key, stored_key, stored_keys, place_of_key, used_state, retired_state};
 
 use algorithms::{Aead, Kdf, is_known_pair};
 use keylist::check::{MOST_CONFIGURATIONS, MOST_PAIR_BYTES, check, first_read, place_in};
@@ -179,10 +179,31 @@ impl Keys {
         ensures place { result ≡ found_key id.0 (keys_of self.now) }
         ensures inside { IfSome result (λ place. place < most_configurations) }
     {
-        self.list
-            .iter()
-            .take(self.count as usize)
-            .position(|key| key.id == id)
+        let mut keys = self.list.iter().take(self.count as usize);
+        keys.position(|key| key.id == id)
+    }
+
+    // The place of the key that a request names, or why it is not admitted by that key.
+    pub fn admits(&self, cap: u32, request: &Request) -> Result<usize, Refusal>
+        ensures value { result ≡ result_by
+            (key_refusal cap (keys_of self.now) (place_of_key request.now.key_id.0 (keys_of self.now)) request.now)
+            (place_of_key request.now.key_id.0 (keys_of self.now)) }
+        ensures bound { IfOk result (λ place. place < most_configurations) }
+    {
+        let place = self.find(request.key_id).ok_or(Reason::NoSuchKey)?;
+        self.list[place].refusal(cap, request)?;
+        Ok(place)
+    }
+
+    // The place of the key with an id, or why it cannot be retired.
+    pub fn retirable(&self, id: KeyId) -> Result<usize, Refusal>
+        ensures value { result ≡ result_by (retire_refusal (key_with id.0 (keys_of self.now)))
+            (place_of_key id.0 (keys_of self.now)) }
+        ensures bound { IfOk result (λ place. place < most_configurations) }
+    {
+        let place = self.find(id).ok_or(Reason::NoSuchKey)?;
+        self.list[place].retire_refusal()?;
+        Ok(place)
     }
 
     // The number of keys.
