@@ -3,7 +3,7 @@ ghost use Rattle.std.specs.Prelude.{◌≡◌, leb, length, take};
 ghost use Rattle.std.specs.Iterator.{YieldsFirstBy, item_count};
 ghost use Rattle.fields.specs.Reader.{next_field, name_in, value_in, place_behind, fields_left};
 
-use crate::field::next;
+use crate::field::{Field, next};
 use crate::parts::{bytes_of, up_to};
 
 #[derive(Clone, Copy)]
@@ -77,8 +77,17 @@ impl<'a> Iterator for Reader<'a> {
         if self.at_end() {
             return None;
         }
-        let field = (self.name(), self.value());
-        self.at = self.behind().at;
-        Some(field)
+        // One reading of the lengths for name, value and place.
+        let message = self.message;
+        match next(message, self.at) {
+            Ok(Field { name, value }) => {
+                self.at = value.end;
+                Some((bytes_of(message, name), bytes_of(message, value)))
+            }
+            Err(_) => {
+                self.at = message.len();
+                Some((&[], &[]))
+            }
+        }
     }
 }

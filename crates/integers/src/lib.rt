@@ -33,11 +33,17 @@ pub fn read(bytes: &[u8], at: usize) -> Option<Integer>
     ensures inside { IfSome result (λ integer. integer.end ≤ length bytes.now) }
 {
     let first = *bytes.get(at)?;
-    let end = at + size_of(first);
-    let rest = bytes.get(at + 1..end)?;
+    let size = size_of(first);
+    if bytes.len() - at < size {
+        return None;
+    }
+    let rest = &bytes[at + 1..at + size];
     let mut value = (first % 64) as u64;
     for byte in rest {
         value = value * 256 + (*byte as u64);
     }
-    Some(Integer { value, end })
+    Some(Integer {
+        value,
+        end: at + size,
+    })
 }

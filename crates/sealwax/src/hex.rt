@@ -16,16 +16,21 @@ impl fmt::Display for Hex<'_> {
         }
         for part in self.0.chunks(PART) {
             let mut digits = [b'0'; 2 * PART];
-            for (pair, byte) in digits.chunks_exact_mut(2).zip(part) {
-                if let [high, low] = pair {
-                    *high = digit(*byte >> 4);
-                    *low = digit(*byte & 15);
-                }
-            }
+            put_digits(part, &mut digits);
             let digits = front_of(&digits, part.len().saturating_mul(2));
             f.write_str(str::from_utf8(digits).map_err(|_| fmt::Error)?)?;
         }
         Ok(())
+    }
+}
+
+// Two digits for each byte, at the front of what is given, as many as there is room for.
+pub(crate) fn put_digits(bytes: &[u8], digits: &mut [u8]) {
+    for (pair, byte) in digits.chunks_exact_mut(2).zip(bytes) {
+        if let [high, low] = pair {
+            *high = digit(*byte >> 4);
+            *low = digit(*byte & 15);
+        }
     }
 }
 

@@ -45,9 +45,12 @@ fn put_fields(message: &[u8], section: Section, out: &mut Output) {
     if section.fields == 0 {
         out.print("-");
     }
-    let mut separator = "";
+    let mut separator: &[u8] = b"";
     for (name, value) in Reader::section(message, section.lies.start, section.lies.end) {
-        out.print(format_args!("{separator}{}:{}", Hex(name), Hex(value)));
-        separator = ",";
+        out.put(separator);
+        out.put_hex(name);
+        out.put(b":");
+        out.put_hex(value);
+        separator = b",";
     }
 }

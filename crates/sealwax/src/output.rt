@@ -2,6 +2,7 @@
 ghost use Rattle.std.specs.Prelude.{◌≤◌};
 
 use crate::failure::Failure;
+use crate::hex::put_digits;
 use results::outcome::Outcome;
 use std::{fmt, io};
 
@@ -29,10 +30,21 @@ impl Output {
     }
 
     // Puts bytes behind what waits; what has no room is left out.
-    fn put(&mut self, bytes: &[u8]) {
+    pub(crate) fn put(&mut self, bytes: &[u8]) {
         let count = bytes.len().min(OUTPUT_SIZE - self.end);
         let end = self.end + count;
         self.bytes[self.end..end].copy_from_slice(&bytes[..count]);
+        self.end = end;
+    }
+
+    // Bytes in hexadecimal, as `Hex` shows them, written where they are to stand: what is short and many is not made a text first.
+    pub(crate) fn put_hex(&mut self, bytes: &[u8]) {
+        if bytes.is_empty() {
+            return self.put(b"-");
+        }
+        let count = bytes.len().min((OUTPUT_SIZE - self.end) / 2);
+        let end = self.end + count * 2;
+        put_digits(bytes, &mut self.bytes[self.end..end]);
         self.end = end;
     }
 
